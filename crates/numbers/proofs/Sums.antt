@@ -1,0 +1,183 @@
+-- The laws of sums over an index. Each says what a fact at every index makes of the sums; `sum-picked` and `sum-swap`
+-- turn a sum over nodes of sums over arcs into one sum over arcs.
+use Prim.Native.Nat.{ℕ, zero, suc, _+_, _≤_, _<_}
+use mathlib.Core.Path.{_≡_, refl, ap, sym, _∙_}
+use mathlib.Core.Bool.{Bool, true, false, not}
+use mathlib.Core.Logic.{_⊎_, ⊎-elim, by-cases}
+use native.Mathlib.Omega.{arith}
+use native.Mathlib.Nat.{eq-or-lt-of-le, le-of-suc-le-suc}
+use native.Mathlib.Decide.{decLt}
+use lib.Dec.{eqb}
+use lib.IntN.{ℤ}
+use borrow.Author.Tests.{eqb-true, eqb-false, ne-eqb, eq-eqb}
+use Rattle.numbers.specs.Sums.{sum, sumℤ, only, onlyℤ, sum-in, sum-inℤ, put}
+use Rattle.numbers.proofs.Parts.{plus, minus, add}
+
+-- a number up to n is n or below it
+pub last-or-before : {i n : ℕ} → i < suc n → (i ≡ n) ⊎ (i < n)
+last-or-before l = eq-or-lt-of-le (le-of-suc-le-suc l)
+
+pub sum-same : (n : ℕ) (f g : ℕ → ℕ) → ((i : ℕ) → i < n → f i ≡ g i) → sum n f ≡ sum n g
+sum-same zero f g h = refl
+sum-same (suc n) f g h = omega (arith, sum-same n f g (λ i l. h i (omega arith)), h n (omega arith))
+
+pub sum-zero : (n : ℕ) (f : ℕ → ℕ) → ((i : ℕ) → i < n → f i ≡ 0) → sum n f ≡ 0
+sum-zero zero f h = refl
+sum-zero (suc n) f h = omega (arith, sum-zero n f (λ i l. h i (omega arith)), h n (omega arith))
+
+pub sum-add : (n : ℕ) (f g : ℕ → ℕ) → sum n (λ i. f i + g i) ≡ sum n f + sum n g
+sum-add zero f g = refl
+sum-add (suc n) f g = omega (arith, sum-add n f g)
+
+pub sum-le : (n : ℕ) (f g : ℕ → ℕ) → ((i : ℕ) → i < n → f i ≤ g i) → sum n f ≤ sum n g
+sum-le zero f g h = omega arith
+sum-le (suc n) f g h = omega (arith, sum-le n f g (λ i l. h i (omega arith)), h n (omega arith))
+
+-- two functions that balance two others at each index balance them in sum
+pub sum-balance : (n : ℕ) (f g h k : ℕ → ℕ) → ((i : ℕ) → i < n → f i + g i ≡ h i + k i) → sum n f + sum n g ≡ sum n h + sum n k
+sum-balance n f g h k e =
+    sym (sum-add n f g) ∙ sum-same n (λ i. f i + g i) (λ i. h i + k i) e ∙ sum-add n h k
+
+pub sum-member : (n : ℕ) (f : ℕ → ℕ) (i : ℕ) → i < n → f i ≤ sum n f
+sum-member zero f i l = absurd (omega arith)
+sum-member (suc n) f i l =
+    ⊎-elim (λ e. omega (arith, ap f e)) (λ l′. omega (arith, sum-member n f i l′)) (last-or-before l)
+
+pub sum-swap : (n m : ℕ) (f : ℕ → ℕ → ℕ) → sum n (λ i. sum m (λ j. f i j)) ≡ sum m (λ j. sum n (λ i. f i j))
+sum-swap zero m f = sym (sum-zero m (λ j. 0) (λ i l. refl))
+sum-swap (suc n) m f =
+    omega (arith, sum-swap n m f, sum-add m (λ j. sum n (λ i. f i j)) (λ j. f n j))
+
+-- two functions that agree but at one index: their sums differ by what they differ there
+pub sum-change : (n : ℕ) (f g : ℕ → ℕ) (j : ℕ) → j < n → ((i : ℕ) → i < n → (i ≡ j → ⊥) → f i ≡ g i) → sum n f + g j ≡ sum n g + f j
+sum-change zero f g j l h = absurd (omega arith)
+sum-change (suc n) f g j l h = ⊎-elim
+    (λ e. omega (arith, ap f e, ap g e, sum-same n f g (λ i l′. h i (omega arith) (λ e′. omega arith))))
+    (λ l′. omega (arith, sum-change n f g j l′ (λ i l″. h i (omega arith)), h n (omega arith) (λ e′. omega arith)))
+    (last-or-before l)
+
+-- a sum that is below another has a term that is
+pub sum-below : (n : ℕ) (f g : ℕ → ℕ) → sum n f < sum n g → (i : ℕ) × (i < n) × (f i < g i)
+sum-below zero f g h = absurd (omega arith)
+sum-below (suc n) f g h = by-cases (decLt (f n) (g n))
+    (λ l. (n, omega arith, l))
+    (λ l. let w = sum-below n f g (omega arith) in (w .0, omega arith, w .2))
+
+-- a sum in which the index a alone counts
+pub sum-picked : (n a : ℕ) (f : ℕ → ℕ) → a < n → sum n (λ i. only (eqb a i) (f i)) ≡ f a
+sum-picked zero a f l = absurd (omega arith)
+sum-picked (suc n) a f l = ⊎-elim
+    (λ e. rw (eq-eqb a n e) (omega (arith, ap f e, sum-zero n (λ i. only (eqb a i) (f i)) (before e))))
+    (λ l′. rw (ne-eqb a n (λ e′. omega arith)) (omega (arith, sum-picked n a f l′)))
+    (last-or-before l)
+  where
+    before : a ≡ n → (i : ℕ) → i < n → only (eqb a i) (f i) ≡ 0
+    before e i l′ = rw (ne-eqb a i (λ e′. omega arith))
+
+-- the two parts of a signed sum
+pub sumℤ-parts : (n : ℕ) (f : ℕ → ℤ) → plus (sumℤ n f) + sum n (λ i. minus (f i)) ≡ sum n (λ i. plus (f i)) + minus (sumℤ n f)
+sumℤ-parts zero f = refl
+sumℤ-parts (suc n) f = omega (arith, sumℤ-parts n f, add (sumℤ n f) (f n))
+
+-- ---- a function with one value put
+
+pub put-there : (f : ℕ → ℕ) (k x : ℕ) → put f k x k ≡ x
+put-there f k x = rw (eq-eqb k k refl)
+
+pub put-elsewhere : (f : ℕ → ℕ) (k x i : ℕ) → (i ≡ k → ⊥) → put f k x i ≡ f i
+put-elsewhere f k x i ne = rw (ne-eqb i k ne)
+
+-- ---- sums over a set of indices
+
+-- what two numbers are over a set: each index either counts, with a proof that it does, or adds nothing
+module _ (n : ℕ) (A : ℕ → Bool) where
+  pub sum-in-same : (a b : ℕ → ℕ) → ((i : ℕ) → i < n → A i ≡ true → a i ≡ b i) → sum-in n A a ≡ sum-in n A b
+  sum-in-same a b h = sum-same n (λ i. only (A i) (a i)) (λ i. only (A i) (b i)) (λ i l. by i (A i) (h i l))
+    where
+      by : (i : ℕ) (t : Bool) → (t ≡ true → a i ≡ b i) → only t (a i) ≡ only t (b i)
+      by i true e = e refl
+      by i false e = refl
+
+  pub sum-in-le : (a b : ℕ → ℕ) → ((i : ℕ) → i < n → A i ≡ true → a i ≤ b i) → sum-in n A a ≤ sum-in n A b
+  sum-in-le a b h = sum-le n (λ i. only (A i) (a i)) (λ i. only (A i) (b i)) (λ i l. by i (A i) (h i l))
+    where
+      by : (i : ℕ) (t : Bool) → (t ≡ true → a i ≤ b i) → only t (a i) ≤ only t (b i)
+      by i true e = e refl
+      by i false e = omega arith
+
+  pub sum-in-add : (a b : ℕ → ℕ) → sum-in n A (λ i. a i + b i) ≡ sum-in n A a + sum-in n A b
+  sum-in-add a b =
+      sum-same n (λ i. only (A i) (a i + b i)) (λ i. only (A i) (a i) + only (A i) (b i)) (λ i l. by (A i) (a i) (b i))
+      ∙ sum-add n (λ i. only (A i) (a i)) (λ i. only (A i) (b i))
+    where
+      by : (t : Bool) (x y : ℕ) → only t (x + y) ≡ only t x + only t y
+      by true x y = refl
+      by false x y = refl
+
+  -- two functions that balance two others at each index balance them in sum
+  pub sum-in-balance : (a b c d : ℕ → ℕ) → ((i : ℕ) → i < n → A i ≡ true → a i + b i ≡ c i + d i)
+      → sum-in n A a + sum-in n A b ≡ sum-in n A c + sum-in n A d
+  sum-in-balance a b c d h =
+      sym (sum-in-add a b) ∙ sum-in-same (λ i. a i + b i) (λ i. c i + d i) h ∙ sum-in-add c d
+
+  -- a number put at k changes the sum by what changed there, where k counts
+  pub sum-in-put : (f : ℕ → ℕ) (k x : ℕ) → k < n
+      → sum-in n A (put f k x) + only (A k) (f k) ≡ sum-in n A f + only (A k) x
+  sum-in-put f k x l = omega (
+    arith,
+    sum-change n (λ i. only (A i) (put f k x i)) (λ i. only (A i) (f i)) k l
+        (λ i l′ ne. ap (only (A i)) (put-elsewhere f k x i ne)),
+    ap (only (A k)) (put-there f k x),
+  )
+
+  -- the whole sum is what the set has and what the rest has
+  pub sum-in-rest : (f : ℕ → ℕ) → sum-in n A f + sum-in n (λ i. not (A i)) f ≡ sum n f
+  sum-in-rest f =
+      sym (sum-add n (λ i. only (A i) (f i)) (λ i. only (not (A i)) (f i)))
+      ∙ sum-same n (λ i. only (A i) (f i) + only (not (A i)) (f i)) f (λ i l. by (A i) (f i))
+    where
+      by : (t : Bool) (x : ℕ) → only t x + only (not t) x ≡ x
+      by true x = omega arith
+      by false x = omega arith
+
+  -- the two parts of a signed sum over a set
+  pub sum-inℤ-parts : (f : ℕ → ℤ)
+      → plus (sum-inℤ n A f) + sum-in n A (λ i. minus (f i)) ≡ sum-in n A (λ i. plus (f i)) + minus (sum-inℤ n A f)
+  sum-inℤ-parts f = omega (
+    arith,
+    sumℤ-parts n (λ i. onlyℤ (A i) (f i)),
+    sum-same n (λ i. minus (onlyℤ (A i) (f i))) (λ i. only (A i) (minus (f i))) (λ i l. by-minus (A i) (f i)),
+    sum-same n (λ i. plus (onlyℤ (A i) (f i))) (λ i. only (A i) (plus (f i))) (λ i l. by-plus (A i) (f i)),
+  )
+    where
+      by-plus : (t : Bool) (z : ℤ) → plus (onlyℤ t z) ≡ only t (plus z)
+      by-plus true z = refl
+      by-plus false z = refl
+
+      by-minus : (t : Bool) (z : ℤ) → minus (onlyℤ t z) ≡ only t (minus z)
+      by-minus true z = refl
+      by-minus false z = refl
+
+-- a sum over a set of nodes of what the arcs bring to each is one sum over the arcs whose node is in the set
+pub sum-in-gathered : (n m : ℕ) (S : ℕ → Bool) (at f : ℕ → ℕ) → ((k : ℕ) → k < m → at k < n)
+    → sum-in n S (λ v. sum-in m (λ k. eqb (at k) v) f) ≡ sum-in m (λ k. S (at k)) f
+sum-in-gathered n m S at f ends =
+    sum-same n (λ v. only (S v) (sum-in m (λ k. eqb (at k) v) f)) (λ v. sum m (λ k. only (S v) (only (eqb (at k) v) (f k))))
+    (λ v l. moved (S v) (λ k. only (eqb (at k) v) (f k)))
+    ∙ sum-swap n m (λ v k. only (S v) (only (eqb (at k) v) (f k)))
+    ∙ sum-same m (λ k. sum n (λ v. only (S v) (only (eqb (at k) v) (f k)))) (λ k. only (S (at k)) (f k)) picked
+  where
+    moved : (t : Bool) (g : ℕ → ℕ) → only t (sum m g) ≡ sum m (λ k. only t (g k))
+    moved true g = refl
+    moved false g = sym (sum-zero m (λ k. 0) (λ k l. refl))
+
+    swapped : (a b : Bool) (x : ℕ) → only a (only b x) ≡ only b (only a x)
+    swapped true b x = refl
+    swapped false true x = refl
+    swapped false false x = refl
+
+    picked : (k : ℕ) → k < m → sum n (λ v. only (S v) (only (eqb (at k) v) (f k))) ≡ only (S (at k)) (f k)
+    picked k l =
+        sum-same n (λ v. only (S v) (only (eqb (at k) v) (f k))) (λ v. only (eqb (at k) v) (only (S v) (f k)))
+        (λ v l′. swapped (S v) (eqb (at k) v) (f k))
+        ∙ sum-picked n (at k) (λ v. only (S v) (f k)) (ends k l)

@@ -1,0 +1,10 @@
+pub mod Cut
+pub mod Certificate
+pub mod Ends
+pub mod Reach
+pub mod Hoffman
+pub mod Between
+pub mod Unique
+pub mod Demand3
+pub mod Refusals
+pub mod Wrong
