@@ -1,11 +1,11 @@
 -- A signed number z is `plus z` less `minus z`, two natural numbers of which one is 0. Each operation of ℤ has one
 -- equation between parts, and each relation of ℤ is one relation between parts, both ways. With `whole` in its list and
 -- the equations of the operations that occur, `omega` proves what is linear over ℤ:  `omega (whole, add a b, sub (a +ℤ b) c)`.
-use Prim.Native.Nat.{ℕ, zero, suc, _+_, _≤_, _<_}
-use mathlib.Core.Path.{_≡_, refl, ap, subst}
-use mathlib.Core.Bool.{Bool, true, false, not}
+use Prim.Native.Nat.{ℕ, zero, suc, _+_, min, _≤_, _<_}
+use mathlib.Core.Path.{_≡_, refl, ap}
+use mathlib.Core.Bool.{Bool, true, false}
 use native.Mathlib.Omega.{arith}
-use lib.Dec.{T, ltb, leb, ltb→lt, nltb→le, leb→le, le→leb, lt→ltb}
+use lib.Dec.{ltb, ltb→lt, leb→le, le→leb, lt→ltb}
 use lib.IntN.{ℤ, pos, negsuc, negℤ, natAbs, subℕ, _+ℤ_, _-ℤ_}
 use lib.Signed.{_≤ℤ_, _<ℤ_, mag}
 use borrow.Author.Tests.{ltb-true, ltb-false}
@@ -17,6 +17,11 @@ plus (negsuc n) = 0
 abbrev pub minus : ℤ → ℕ
 minus (pos n) = 0
 minus (negsuc n) = suc n
+
+-- one of the two is 0
+pub one-part : (z : ℤ) → min (plus z) (minus z) ≡ 0
+one-part (pos n) = omega arith
+one-part (negsuc n) = omega arith
 
 -- a difference of two natural numbers
 difference : (a b : ℕ) → plus (subℕ a b) + b ≡ a + minus (subℕ a b)
@@ -86,11 +91,8 @@ magnitude (pos n) = omega arith
 magnitude (negsuc n) = omega arith
 
 pub magnitude-add : (a b : ℤ) → natAbs (a +ℤ b) ≤ natAbs a + natAbs b
-magnitude-add a b = by (a +ℤ b) (omega (arith, add a b, magnitude a, magnitude b)) (omega (arith, add a b, magnitude a, magnitude b))
-  where
-    by : (s : ℤ) → plus s ≤ natAbs a + natAbs b + minus s → minus s ≤ natAbs a + natAbs b + plus s → natAbs s ≤ natAbs a + natAbs b
-    by (pos n) h k = omega arith
-    by (negsuc n) h k = omega arith
+magnitude-add a b =
+    omega (arith, add a b, magnitude a, magnitude b, magnitude (a +ℤ b), one-part (a +ℤ b))
 
 -- what bounds the magnitude bounds the number's range
 pub magnitude-range : (a : ℤ) → mag a ≤ natAbs a

@@ -1,21 +1,50 @@
 -- The laws of sums over an index. Each says what a fact at every index makes of the sums; `sum-picked` and `sum-swap`
--- turn a sum over nodes of sums over arcs into one sum over arcs.
+-- turn a sum over nodes of sums over arcs into one sum over arcs. Before them stand a few facts of numbers and of tests.
 use Prim.Native.Nat.{ℕ, zero, suc, _+_, _≤_, _<_}
 use mathlib.Core.Path.{_≡_, refl, ap, sym, _∙_}
-use mathlib.Core.Bool.{Bool, true, false, not}
+use mathlib.Core.Bool.{Bool, true, false, not, _&&_, and-true, cond}
 use mathlib.Core.Logic.{_⊎_, ⊎-elim, by-cases}
 use native.Mathlib.Omega.{arith}
-use native.Mathlib.Nat.{eq-or-lt-of-le, le-of-suc-le-suc}
-use native.Mathlib.Decide.{decLt}
+use native.Mathlib.Nat.{le-refl, eq-or-lt-of-le, le-of-suc-le-suc}
+use native.Mathlib.Decide.{ℕ-discrete, decLt}
 use lib.Dec.{eqb}
-use lib.IntN.{ℤ}
-use borrow.Author.Tests.{eqb-true, eqb-false, ne-eqb, eq-eqb}
+use lib.IntN.{ℤ, pos}
+use borrow.Author.Tests.{ne-eqb, eq-eqb}
 use Rattle.numbers.specs.Sums.{sum, sumℤ, only, onlyℤ, sum-in, sum-inℤ, put}
 use Rattle.numbers.proofs.Parts.{plus, minus, add}
+
+-- ---- numbers and tests
 
 -- a number up to n is n or below it
 pub last-or-before : {i n : ℕ} → i < suc n → (i ≡ n) ⊎ (i < n)
 last-or-before l = eq-or-lt-of-le (le-of-suc-le-suc l)
+
+-- what gets smaller at every turn until it is done gets done
+pub descend : {A : Type 0} {Done : A → Type 0} (size : A → ℕ)
+    → ((a : A) → Done a ⊎ ((next : A) × (size next < size a))) → A → (a : A) × Done a
+descend {A} {Done} size turn a = go (size a) a (le-refl (size a))
+  where
+    go : (n : ℕ) (a : A) → size a ≤ n → (a : A) × Done a
+    go zero a l = ⊎-elim (λ d. (a, d)) (λ m. absurd (omega (arith, m .1))) (turn a)
+    go (suc n) a l = ⊎-elim (λ d. (a, d)) (λ m. go n (m .0) (omega (arith, m .1))) (turn a)
+
+-- what is true of a test whether two numbers are equal, where they are and where they are not
+pub eqb-cases : (C : Bool → Type 0) (i k : ℕ) → (i ≡ k → C true) → ((i ≡ k → ⊥) → C false) → C (eqb i k)
+eqb-cases C i k same other = by-cases (ℕ-discrete i k)
+    (λ e. rw (eq-eqb i k e) (same e))
+    (λ ne. rw (ne-eqb i k ne) (other ne))
+
+-- one more counts as one more where the test holds
+pub only-suc : (t : Bool) (m n : ℕ) → n ≡ suc m → only t n ≡ only t m + only t 1
+only-suc true m n e = omega arith
+only-suc false m n e = refl
+
+-- what is so of two numbers where the test holds, and of 0 and 0, is so of what they count as
+only-cases : (R : ℕ → ℕ → Type 0) → R 0 0 → (t : Bool) (x y : ℕ) → (t ≡ true → R x y) → R (only t x) (only t y)
+only-cases R none true x y some = some refl
+only-cases R none false x y some = none
+
+-- ---- sums over an index
 
 pub sum-same : (n : ℕ) (f g : ℕ → ℕ) → ((i : ℕ) → i < n → f i ≡ g i) → sum n f ≡ sum n g
 sum-same zero f g h = refl
@@ -87,23 +116,40 @@ put-there f k x = rw (eq-eqb k k refl)
 pub put-elsewhere : (f : ℕ → ℕ) (k x i : ℕ) → (i ≡ k → ⊥) → put f k x i ≡ f i
 put-elsewhere f k x i ne = rw (ne-eqb i k ne)
 
+-- what is true of a function with one value put: of the value at its index, of the function elsewhere
+pub put-cases : {A : Type 0} (C : A → Type 0) (f : ℕ → A) (k : ℕ) (x : A) (i : ℕ)
+    → (i ≡ k → C x) → ((i ≡ k → ⊥) → C (f i)) → C (cond (eqb i k) x (f i))
+put-cases C f k x i = eqb-cases (λ t. C (cond t x (f i))) i k
+
 -- ---- sums over a set of indices
 
--- what two numbers are over a set: each index either counts, with a proof that it does, or adds nothing
+-- each index either counts, with a proof that it does, or adds nothing
 module _ (n : ℕ) (A : ℕ → Bool) where
   pub sum-in-same : (a b : ℕ → ℕ) → ((i : ℕ) → i < n → A i ≡ true → a i ≡ b i) → sum-in n A a ≡ sum-in n A b
-  sum-in-same a b h = sum-same n (λ i. only (A i) (a i)) (λ i. only (A i) (b i)) (λ i l. by i (A i) (h i l))
-    where
-      by : (i : ℕ) (t : Bool) → (t ≡ true → a i ≡ b i) → only t (a i) ≡ only t (b i)
-      by i true e = e refl
-      by i false e = refl
+  sum-in-same a b h = sum-same n (λ i. only (A i) (a i)) (λ i. only (A i) (b i))
+      (λ i l. only-cases (λ x y. x ≡ y) refl (A i) (a i) (b i) (h i l))
+
+  pub sum-in-zero : (a : ℕ → ℕ) → ((i : ℕ) → i < n → A i ≡ true → a i ≡ 0) → sum-in n A a ≡ 0
+  sum-in-zero a h =
+      sum-zero n (λ i. only (A i) (a i)) (λ i l. only-cases (λ x y. x ≡ 0) refl (A i) (a i) 0 (h i l))
 
   pub sum-in-le : (a b : ℕ → ℕ) → ((i : ℕ) → i < n → A i ≡ true → a i ≤ b i) → sum-in n A a ≤ sum-in n A b
-  sum-in-le a b h = sum-le n (λ i. only (A i) (a i)) (λ i. only (A i) (b i)) (λ i l. by i (A i) (h i l))
+  sum-in-le a b h = sum-le n (λ i. only (A i) (a i)) (λ i. only (A i) (b i))
+      (λ i l. only-cases (λ x y. x ≤ y) (le-refl 0) (A i) (a i) (b i) (h i l))
+
+  -- a term of a sum over a set is at most the sum
+  pub sum-in-member : (f : ℕ → ℕ) (i : ℕ) → i < n → A i ≡ true → f i ≤ sum-in n A f
+  sum-in-member f i l a = rw a at (sum-member n (λ j. only (A j) (f j)) i l)
+
+  -- a sum over a set that is not 0 has a term that is not
+  pub sum-in-some : (f : ℕ → ℕ) → 0 < sum-in n A f → (i : ℕ) × (i < n) × (A i ≡ true) × (0 < f i)
+  sum-in-some f h =
+      let (i, l, more) = sum-below n (λ j. 0) (λ j. only (A j) (f j)) (omega (arith, sum-zero n (λ j. 0) (λ j l. refl))) in
+      by i l (A i) refl more
     where
-      by : (i : ℕ) (t : Bool) → (t ≡ true → a i ≤ b i) → only t (a i) ≤ only t (b i)
-      by i true e = e refl
-      by i false e = omega arith
+      by : (i : ℕ) → i < n → (t : Bool) → A i ≡ t → 0 < only t (f i) → (i : ℕ) × (i < n) × (A i ≡ true) × (0 < f i)
+      by i l true e more = (i, l, e, more)
+      by i l false e more = absurd (omega arith)
 
   pub sum-in-add : (a b : ℕ → ℕ) → sum-in n A (λ i. a i + b i) ≡ sum-in n A a + sum-in n A b
   sum-in-add a b =
@@ -130,6 +176,20 @@ module _ (n : ℕ) (A : ℕ → Bool) where
     ap (only (A k)) (put-there f k x),
   )
 
+  -- one index of the set beside the others
+  pub sum-in-apart : (f : ℕ → ℕ) (k : ℕ) → k < n → A k ≡ true
+      → sum-in n A f ≡ sum-in n (λ i. A i && not (eqb i k)) f + f k
+  sum-in-apart f k l a = omega (
+    arith,
+    sum-change n (λ i. only (A i) (f i)) (λ i. only (A i && not (eqb i k)) (f i)) k l
+        (λ i l′ ne. rw (ne-eqb i k ne, and-true)),
+    ap (λ t. only t (f k)) a,
+    none,
+  )
+    where
+      none : only (A k && not (eqb k k)) (f k) ≡ 0
+      none = rw (eq-eqb k k refl, a)
+
   -- the whole sum is what the set has and what the rest has
   pub sum-in-rest : (f : ℕ → ℕ) → sum-in n A f + sum-in n (λ i. not (A i)) f ≡ sum n f
   sum-in-rest f =
@@ -146,17 +206,13 @@ module _ (n : ℕ) (A : ℕ → Bool) where
   sum-inℤ-parts f = omega (
     arith,
     sumℤ-parts n (λ i. onlyℤ (A i) (f i)),
-    sum-same n (λ i. minus (onlyℤ (A i) (f i))) (λ i. only (A i) (minus (f i))) (λ i l. by-minus (A i) (f i)),
-    sum-same n (λ i. plus (onlyℤ (A i) (f i))) (λ i. only (A i) (plus (f i))) (λ i l. by-plus (A i) (f i)),
+    sum-same n (λ i. minus (onlyℤ (A i) (f i))) (λ i. only (A i) (minus (f i))) (λ i l. by minus refl (A i) (f i)),
+    sum-same n (λ i. plus (onlyℤ (A i) (f i))) (λ i. only (A i) (plus (f i))) (λ i l. by plus refl (A i) (f i)),
   )
     where
-      by-plus : (t : Bool) (z : ℤ) → plus (onlyℤ t z) ≡ only t (plus z)
-      by-plus true z = refl
-      by-plus false z = refl
-
-      by-minus : (t : Bool) (z : ℤ) → minus (onlyℤ t z) ≡ only t (minus z)
-      by-minus true z = refl
-      by-minus false z = refl
+      by : (part : ℤ → ℕ) → part (pos 0) ≡ 0 → (t : Bool) (z : ℤ) → part (onlyℤ t z) ≡ only t (part z)
+      by part none true z = refl
+      by part none false z = none
 
 -- a sum over a set of nodes of what the arcs bring to each is one sum over the arcs whose node is in the set
 pub sum-in-gathered : (n m : ℕ) (S : ℕ → Bool) (at f : ℕ → ℕ) → ((k : ℕ) → k < m → at k < n)

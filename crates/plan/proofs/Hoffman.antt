@@ -1,26 +1,25 @@
 -- Hoffman's theorem. Start with the lows, and let what is over spread along steps until none leads out of its reach. If the
 -- reach has a node that is under, one unit can be sent there, and less is over. If not, the reach is the shortage set: its
 -- shortfall is what is over in all. Where that is nothing, nothing is under either, and the counts are a flow.
-use Prim.Native.Nat.{ℕ, _+_, min, _≤_, _<_}
+use Prim.Native.Nat.{ℕ, _+_, _≤_, _<_}
 use mathlib.Core.Path.{_≡_, refl, ap}
-use mathlib.Core.Bool.{Bool, true, false}
+use mathlib.Core.Bool.{true}
 use mathlib.Core.Logic.{_⊎_, inl, inr, ⊎-elim, by-cases, _↔_}
 use native.Mathlib.Omega.{arith}
 use native.Mathlib.Nat.{le-refl}
 use native.Mathlib.Decide.{decLt}
 use lib.Dec.{eqb}
-use lib.IntN.{ℤ, pos, negsuc}
+use lib.IntN.{pos}
 use lib.Signed.{_≤ℤ_, _<ℤ_}
-use borrow.Author.Tests.{eqb-true}
 use Rattle.numbers.specs.Sums.{sum, only}
-use Rattle.numbers.proofs.Parts.{plus, minus, whole, add}
-use Rattle.numbers.proofs.Sums.{sum-zero, sum-same, sum-add, sum-member, sum-picked, sum-inℤ-parts, sumℤ-parts}
+use Rattle.numbers.proofs.Parts.{plus, minus, one-part, whole, add}
+use Rattle.numbers.proofs.Sums.{descend, eqb-cases, sum-zero, sum-same, sum-add, sum-member, sum-picked, sum-in-member, sum-in-some, sum-inℤ-parts, sumℤ-parts}
 use Rattle.plan.specs.Plan.{Plan, Set, WellFormed}
 use Rattle.plan.specs.Flow.{Within, Flow}
 use Rattle.plan.specs.Shortage.{leaves, shortfall, Shortage}
 use Rattle.plan.proofs.Cut.{over-nodes, excess, room, excess-parts, shortfall-parts, gap-identity, balance-flow, flow-leaves-no-shortfall}
-use Rattle.plan.proofs.Certificate.{Ledger, Settled, settled-shortage, settled-shortfall}
-use Rattle.plan.proofs.Reach.{Sent, sent, Spread, descend, sum-in-member, sum-in-some, send, spread, reached-inside}
+use Rattle.plan.proofs.Certificate.{Ledger, Settled, account-parts, settled-shortage, settled-shortfall}
+use Rattle.plan.proofs.Reach.{Sent, sent, Spread, send, spread, reached-inside}
 
 -- what is over at a node, and what is under
 abbrev pub over : Plan → (ℕ → ℕ) → ℕ → ℕ
@@ -32,11 +31,6 @@ under p f v = minus (excess p f v)
 -- what is over in all
 abbrev pub all-over : Plan → (ℕ → ℕ) → ℕ
 all-over p f = sum (p .nodes) (over p f)
-
--- one of the two is 0
-one-part : (z : ℤ) → min (plus z) (minus z) ≡ 0
-one-part (pos n) = omega arith
-one-part (negsuc n) = omega arith
 
 -- counts that leave less over than f
 abbrev Better : Plan → (ℕ → ℕ) → Type 0
@@ -50,9 +44,8 @@ Stuck p f = (S : Set) × Shortage p S × (shortfall p S ≡ pos (all-over p f))
 sent-improves : (p : Plan) (f : ℕ → ℕ) {y : ℕ} → Sent p (over p f) f y → 0 < under p f y → Better p f
 sent-improves p f {y} (sent {g} {s} c l more m) lack = ((g, c), less)
   where
-    unit : (u : ℕ → ℕ) (x v : ℕ) (t : Bool) → eqb x v ≡ t → 0 < u x → only t 1 ≤ u v
-    unit u x v true e some = omega (arith, ap u (eqb-true x v e))
-    unit u x v false e some = omega arith
+    unit : (u : ℕ → ℕ) (x v : ℕ) → 0 < u x → only (eqb x v) 1 ≤ u v
+    unit u x v some = eqb-cases (λ t. only t 1 ≤ u v) x v (λ e. omega (arith, ap u e)) (λ ne. omega arith)
 
     node : (v : ℕ) → v < p .nodes → over p g v + only (eqb s v) 1 ≡ over p f v
     node v h = omega (
@@ -62,8 +55,8 @@ sent-improves p f {y} (sent {g} {s} c l more m) lack = ((g, c), less)
       excess-parts p g v,
       one-part (excess p f v),
       one-part (excess p g v),
-      unit (over p f) s v (eqb s v) refl more,
-      unit (under p f) y v (eqb y v) refl lack,
+      unit (over p f) s v more,
+      unit (under p f) y v lack,
     )
 
     less : all-over p g < all-over p f
@@ -121,7 +114,7 @@ module _ (p : Plan) (w : WellFormed p) (f : ℕ → ℕ) (c : Within p f) where
 
   -- where nothing is over nothing is under, since the supplies sum to 0
   nothing-over-flow : all-over p f ≡ 0 → Flow p f
-  nothing-over-flow none = balance-flow p f c (λ v l. omega (
+  nothing-over-flow none = balance-flow c (λ v l. omega (
     arith,
     excess-parts p f v,
     sum-member (p .nodes) (over p f) v l,
@@ -135,8 +128,7 @@ module _ (p : Plan) (w : WellFormed p) (f : ℕ → ℕ) (c : Within p f) where
       none-under : sum (p .nodes) (under p f) ≡ 0
       none-under = omega (
         whole,
-        counts-ledger .account all,
-        add (shortfall p all) (pos (room p f all + over-nodes p (under p f) all)),
+        account-parts p counts-ledger all,
         shortfall-parts p all,
         sum-zero (p .arcs) (λ k. only (leaves p all k) (p .high k)) (λ k l. refl),
         sumℤ-parts (p .nodes) (p .supply),

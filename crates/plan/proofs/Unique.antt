@@ -14,7 +14,8 @@ use Rattle.plan.specs.Plan.{Plan, Set, WellFormed}
 use Rattle.plan.specs.Flow.{total, FirstFlow, Smallest, Largest, Narrowed}
 use Rattle.plan.specs.Shortage.{leaves, enters, shortfall, Inside, Shortage}
 use Rattle.plan.specs.Reason.{ReasonSet}
-use Rattle.plan.proofs.Cut.{has, lacks, shortfall-parts}
+use Rattle.plan.proofs.Cut.{shortfall-parts}
+use Rattle.plan.proofs.Ends.{smallest-least, largest-most}
 
 -- two first flows agree on every arc: on the first one where they could differ, neither has less
 agree-before : (p : Plan) (f g : ℕ → ℕ) → FirstFlow p f → FirstFlow p g → (i : ℕ) → i ≤ p .arcs → (j : ℕ) → j < i → f j ≡ g j
@@ -30,22 +31,10 @@ pub first-flow-unique : (p : Plan) (f g : ℕ → ℕ) → FirstFlow p f → Fir
 first-flow-unique p f g a b k l = agree-before p f g a b (suc k) l k (omega arith)
 
 pub smallest-unique : {p : Plan} {k a b : ℕ} → Smallest p k a → Smallest p k b → a ≡ b
-smallest-unique x y = omega (
-  arith,
-  x .smallest (y .occurs .counts) (y .occurs .flow),
-  y .smallest (x .occurs .counts) (x .occurs .flow),
-  x .occurs .there,
-  y .occurs .there,
-)
+smallest-unique x y = omega (arith, smallest-least x (y .occurs), smallest-least y (x .occurs))
 
 pub largest-unique : {p : Plan} {k a b : ℕ} → Largest p k a → Largest p k b → a ≡ b
-largest-unique x y = omega (
-  arith,
-  x .largest (y .occurs .counts) (y .occurs .flow),
-  y .largest (x .occurs .counts) (x .occurs .flow),
-  x .occurs .there,
-  y .occurs .there,
-)
+largest-unique x y = omega (arith, largest-most x (y .occurs), largest-most y (x .occurs))
 
 pub narrowed-unique : {p : Plan} {k a b c d : ℕ} → Narrowed p k a b → Narrowed p k c d → (a ≡ c) × (b ≡ d)
 narrowed-unique x y = (smallest-unique (x .low-end) (y .low-end), largest-unique (x .high-end) (y .high-end))

@@ -1,0 +1,50 @@
+use mathlib.Core.Path.{_≡_}
+use Rattle.engine.specs.Room.{cell}
+use Rattle.engine.proofs.Cells.{cell-bound, cell-first, handed-pushes}
+use native.Mathlib.Omega.{arith}
+use borrow.Author.Needs.{needs}
+use Rattle.engine.proofs.rooms.push.Statement.{statement}
+use Rattle.engine.proofs.rooms.push.Tie as tie
+use Rattle.engine.proofs.rooms.push.Reads as reads
+use Rattle.engine.proofs.rooms.push.Lts as lts
+use Rattle.engine.proofs.rooms.hand.Reads as hand-reads
+use Rattle.engine.proofs.rooms.place.Reads as place-reads
+
+-- src/rooms.rt:49:9
+place-requires : tie.Need-place-requires
+place-requires c κs = search needs
+
+-- src/rooms.rt:50:9
+place-requires-2 : tie.Need-place-requires-2
+place-requires-2 c κs = search needs
+
+-- src/rooms.rt:51:5
+hand-requires : tie.Need-hand-requires
+hand-requires c κs =
+    let a = c .before .before .before .before .args in
+    let pre = c .before .before .before .before .pre in
+    let apart : cell (a .back) (a .x) (a .y) ≡ cell (a .back) (a .y) (a .x) → ⊥ =
+    λ e. pre .1 .0 .2 (cell-first (a .back) (a .y) (a .x) (a .x) (a .y) (pre .1 .0 .1) (pre .1 .0 .0) (pre .1 .0 .0) (pre .1 .0 .1) e) in
+    rw (c .before .before .place .ensures .0, c .before .place2 .ensures .0) (
+      (
+        omega (arith, cell-bound (a .back) (a .x) (a .y) (pre .1 .0 .0) (pre .1 .0 .1)),
+        omega (arith, cell-bound (a .back) (a .y) (a .x) (pre .1 .0 .1) (pre .1 .0 .0)),
+        apart,
+      ),
+      (pre .1 .1 .0, pre .1 .1 .1),
+    )
+
+-- src/rooms.rt:42:1
+same-length : tie.Need-same-length
+same-length c = search needs
+
+-- src/rooms.rt:42:1
+returns : tie.Need-returns
+returns c =
+    let a = c .before .before .before .before .before .before .before .args in
+    let pre = c .before .before .before .before .before .before .before .pre in
+    handed-pushes (a .rooms .now) (c .before .before .hand .last .0) (a .back) (a .x) (a .y) (a .d) (pre .1 .0 .0) (pre .1 .0 .1)
+    (rw (c .before .before .before .before .before .place .ensures .0, c .before .before .before .before .place2 .ensures .0) at (c .before .before .hand .ensures))
+
+pub push-spec : {M : Type 1} → statement M
+push-spec = tie.close (tie.spec place-requires place-requires-2 hand-requires same-length returns)

@@ -1,0 +1,106 @@
+use Rattle.engine.proofs.Sweeping.{two-members}
+use Rattle.engine.proofs.Account.{paid-swept, paid-falls, rooms-pushed, moved-swept}
+use Rattle.engine.specs.Room.{at}
+use native.Mathlib.Omega.{arith}
+use borrow.Author.Needs.{needs}
+use Rattle.engine.proofs.sweep.turn.Statement.{statement}
+use Rattle.engine.proofs.sweep.turn.Tie as tie
+use Rattle.engine.proofs.sweep.turn.Reads as reads
+use Rattle.engine.proofs.sweep.turn.Lts as lts
+use Rattle.engine.proofs.sweep.move_on.Reads as move-on-reads
+use Rattle.engine.proofs.sweep.pay.Reads as pay-reads
+
+-- src/sweep.rt:55:13
+mul-y : tie.Need-mul-y
+mul-y c = search needs
+
+-- src/sweep.rt:55:13
+shared-slice-read-y : tie.Need-shared-slice-read-y
+shared-slice-read-y c = search needs
+
+-- src/sweep.rt:57:9
+pay-requires : tie.Need-pay-requires
+pay-requires c κs = search needs
+
+-- src/sweep.rt:59:17
+mul-x : tie.Need-mul-x
+mul-x c = search needs
+
+-- src/sweep.rt:59:17
+shared-slice-read-x : tie.Need-shared-slice-read-x
+shared-slice-read-x c = search needs
+
+-- src/sweep.rt:60:9
+move-on-requires : tie.Need-move-on-requires
+move-on-requires c κs =
+    let pre = c .before .before .before .before .before .before .before .before .before .before .pre in
+    let other = pre .1 .1 .1 (c .before .before .before .if1 .left) in
+    let a = c .before .before .before .before .before .before .before .before .before .before .args in (
+      pre .0 .rooms-whole,
+      (
+        (omega (arith, other .0, pre .0 .nodes-fit), omega (arith, pre .1 .1 .0 .2, pre .0 .nodes-fit), other .1),
+        (
+          (omega (arith, other .0, pre .0 .under-whole), omega (arith, pre .1 .1 .0 .2, pre .0 .under-whole)),
+          (
+            pre .1 .0 .pairs-small (at (a .finder .now) (a .j)) (at (a .order .now) (a .j)) (other .0) (pre .1 .1 .0 .2) (other .1),
+            omega (arith, pre .1 .0 .under-small, two-members (a .n) (at (a .under .now)) (at (a .finder .now) (a .j)) (at (a .order .now) (a .j)) (other .0) (pre .1 .1 .0 .2) (other .1)),
+          ),
+        ),
+      ),
+    )
+
+-- src/sweep.rt:45:1
+same-length : tie.Need-same-length
+same-length c = search needs
+
+-- src/sweep.rt:45:1
+same-length-2 : tie.Need-same-length-2
+same-length-2 c = search needs
+
+-- src/sweep.rt:45:1
+returns : tie.Need-returns
+returns c =
+    let pre = c .before .before .before .before .before .before .before .before .before .before .before .before .before .before .pre in
+    record {
+      swept = paid-swept (c .before .before .before .before .before .before .before .before .before .before .before .before .before .before .args .n) (pre .0 .nodes-fit) (pre .1 .1 .0 .2) (c .before .before .before .before .pay .ensures);
+      room-stays = λ x z lx lz off. omega arith;
+      pays = λ s o u. paid-falls (c .before .before .before .before .before .before .before .before .before .before .before .before .before .before .args .n) (pre .0 .nodes-fit) (pre .1 .1 .0 .2) (c .before .before .before .before .pay .ensures) o u;
+      moves = λ s room lack. absurd (omega (arith, c .before .before .before .before .before .before .before .if1 .taken));
+    }
+
+-- src/sweep.rt:45:1
+same-length-3 : tie.Need-same-length-3
+same-length-3 c = search needs
+
+-- src/sweep.rt:45:1
+same-length-4 : tie.Need-same-length-4
+same-length-4 c = search needs
+
+-- src/sweep.rt:45:1
+returns-2 : tie.Need-returns-2
+returns-2 c =
+    let pre = c .before .before .before .before .before .before .before .before .before .before .before .before .before .before .before .pre in
+    let other = pre .1 .1 .1 (c .before .before .before .before .before .before .before .before .if1 .left) in
+    record {
+      swept = moved-swept (c .before .before .before .before .before .before .before .before .before .before .before .before .before .before .before .args .n) (pre .0 .nodes-fit) (other .0) (pre .1 .1 .0 .2) (other .1) (c .before .before .before .before .move-on .ensures);
+      room-stays = λ x z lx lz off. rooms-pushed (c .before .before .before .before .before .before .before .before .before .before .before .before .before .before .before .args .n) (pre .0 .nodes-fit) (other .0) (pre .1 .1 .0 .2) (other .1) (c .before .before .before .before .move-on .ensures .pushed) x z lx lz (off (c .before .before .before .before .before .before .before .before .if1 .left));
+      pays = λ s o u. absurd (omega (arith, c .before .before .before .before .before .before .before .before .if1 .left));
+      moves = λ s room lack. omega (arith, c .before .before .before .before .move-on .ensures .handed .taken, c .before .before .before .before .move-on .ensures .some room lack);
+    }
+
+pub turn-spec : {M : Type 1} → statement M
+turn-spec =
+    tie.close
+    (tie.spec
+    mul-y
+    shared-slice-read-y
+    pay-requires
+    mul-x
+    shared-slice-read-x
+    move-on-requires
+    same-length
+    same-length-2
+    returns
+    same-length-3
+    same-length-4
+    returns-2)
