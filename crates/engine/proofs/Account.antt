@@ -56,7 +56,7 @@ module _ (n : ℕ) (S : ℕ → Bool) where
 -- ---- rooms
 
 -- two rooms that agree but at one pair
-cell-change : (n : ℕ) (S : ℕ → Bool) (room room′ : ℕ → ℕ → ℕ) (x y : ℕ) → x < n → y < n
+pub cell-change : (n : ℕ) (S : ℕ → Bool) (room room′ : ℕ → ℕ → ℕ) (x y : ℕ) → x < n → y < n
     → ((i j : ℕ) → i < n → j < n → (i ≡ x → j ≡ y → ⊥) → room′ i j ≡ room i j)
     → crossing n room′ S + only (S x) (only (not (S y)) (room x y)) ≡ crossing n room S + only (S x) (only (not (S y)) (room′ x y))
 cell-change n S room room′ x y lx ly h = by (S x) (S y) (sum-in-change n S (row room′) (row room) x lx other) here
@@ -77,43 +77,47 @@ cell-change n S room room′ x y lx ly h = by (S x) (S y) (sum-in-change n S (ro
     by true t outer inner = omega arith
     by false t outer inner = omega arith
 
+-- the rooms with one room put
+pub put-room : (ℕ → ℕ → ℕ) → ℕ → ℕ → ℕ → ℕ → ℕ → ℕ
+put-room room x y r i j = cond (eqb i x && eqb j y) r (room i j)
+
+pub put-room-there : (room : ℕ → ℕ → ℕ) (x y r : ℕ) → put-room room x y r x y ≡ r
+unfolding put-room
+put-room-there room x y r = rw (eq-eqb x x refl, eq-eqb y y refl)
+
+pub put-room-elsewhere : (room : ℕ → ℕ → ℕ) (x y r i j : ℕ) → (i ≡ x → j ≡ y → ⊥) → put-room room x y r i j ≡ room i j
+unfolding put-room
+put-room-elsewhere room x y r i j away = by (eqb i x) (eqb j y) refl refl
+  where
+    by : (s t : Bool) → eqb i x ≡ s → eqb j y ≡ t → cond (s && t) r (room i j) ≡ room i j
+    by true true e f = absurd (away (eqb-true i x e) (eqb-true j y f))
+    by true false e f = refl
+    by false t e f = refl
+
 module _ (n : ℕ) (few : n ≤ side) {room room′ : ℕ → ℕ → ℕ} {x y d : ℕ} (lx : x < n) (ly : y < n) (ne : x ≡ y → ⊥) (h : Pushed room room′ x y d) where
   -- the rooms with only the first of the two pairs changed
-  half : ℕ → ℕ → ℕ
-  half i j = cond (eqb i x && eqb j y) (room′ x y) (room i j)
-
-  half-there : half x y ≡ room′ x y
-  unfolding half
-  half-there = rw (eq-eqb x x refl, eq-eqb y y refl)
-
-  half-elsewhere : (i j : ℕ) → (i ≡ x → j ≡ y → ⊥) → half i j ≡ room i j
-  unfolding half
-  half-elsewhere i j away = by (eqb i x) (eqb j y) refl refl
-    where
-      by : (s t : Bool) → eqb i x ≡ s → eqb j y ≡ t → cond (s && t) (room′ x y) (room i j) ≡ room i j
-      by true true e f = absurd (away (eqb-true i x e) (eqb-true j y f))
-      by true false e f = refl
-      by false t e f = refl
+  abbrev half : ℕ → ℕ → ℕ
+  half = put-room room x y (room′ x y)
 
   pub crossing-pushed : (S : ℕ → Bool)
       → crossing n room′ S + only (S x) (only (not (S y)) d) ≡ crossing n room S + only (S y) (only (not (S x)) d)
-  crossing-pushed S = by (S x) (S y) (cell-change n S room half x y lx ly (λ i j li lj. half-elsewhere i j))
+  crossing-pushed S = by (S x) (S y) (cell-change n S room half x y lx ly (λ i j li lj. put-room-elsewhere room x y (room′ x y) i j))
       (cell-change n S half room′ y x ly lx second)
     where
       second : (i j : ℕ) → i < n → j < n → (i ≡ y → j ≡ x → ⊥) → room′ i j ≡ half i j
       second i j li lj away = by-cases (ℕ-discrete i x)
           (λ ei. by-cases (ℕ-discrete j y)
-          (λ ej. rw (ei, ej) (sym half-there))
-          (λ nj. h .elsewhere i j (omega arith) (omega arith) (λ e. nj) away ∙ sym (half-elsewhere i j (λ e. nj))))
-          (λ ni. h .elsewhere i j (omega arith) (omega arith) (λ e. absurd (ni e)) away ∙ sym (half-elsewhere i j (λ e. absurd (ni e))))
+          (λ ej. rw (ei, ej) (sym (put-room-there room x y (room′ x y))))
+          (λ nj. h .elsewhere i j (omega arith) (omega arith) (λ e. nj) away ∙ sym (put-room-elsewhere room x y (room′ x y) i j (λ e. nj))))
+          (λ ni. h .elsewhere i j (omega arith) (omega arith) (λ e. absurd (ni e)) away ∙ sym (put-room-elsewhere room x y (room′ x y) i j (λ e. absurd (ni e))))
 
       by : (s t : Bool)
           → crossing n half S + only s (only (not t) (room x y)) ≡ crossing n room S + only s (only (not t) (half x y))
           → crossing n room′ S + only t (only (not s) (half y x)) ≡ crossing n half S + only t (only (not s) (room′ y x))
           → crossing n room′ S + only s (only (not t) d) ≡ crossing n room S + only t (only (not s) d)
       by true true a b = omega arith
-      by true false a b = omega (arith, half-there, h .there)
-      by false true a b = omega (arith, half-elsewhere y x (λ e. absurd (ne (sym e))), h .back)
+      by true false a b = omega (arith, put-room-there room x y (room′ x y), h .there)
+      by false true a b = omega (arith, put-room-elsewhere room x y (room′ x y) y x (λ e. absurd (ne (sym e))), h .back)
       by false false a b = omega arith
 
   -- each pair keeps its room

@@ -8,7 +8,7 @@ use native.Mathlib.Omega.{arith}
 use lib.ListN.{length, set, length-set}
 use lib.Seq.{getD-set-same, getD-set-other}
 use Rattle.engine.specs.Room.{side, cell, at, seen}
-use Rattle.engine.specs.Move.{Pushed, Handed}
+use Rattle.engine.specs.Move.{Pushed, Handed, Less, Taken}
 
 pub cell-bound : (back : Bool) (x y : ℕ) → x < side → y < side → cell back x y < side * side
 cell-bound true x y lx ly = omega arith
@@ -43,4 +43,13 @@ handed-pushes rooms rooms′ back x y d lx ly h = record {
   elsewhere = λ i j li lj nf nt. h .elsewhere (cell back i j)
       (λ e. nf (cell-first back x y i j lx ly li lj e) (cell-second back x y i j lx ly li lj e))
       (λ e. nt (cell-first back y x i j ly lx li lj e) (cell-second back y x i j ly lx li lj e));
+}
+
+-- what is taken off one pair's place shows at that pair alone
+pub taken-off : (rooms rooms′ : List ℕ) (back : Bool) (x y d : ℕ) → x < side → y < side → Less (at rooms) (at rooms′) (cell back x y) d
+    → Taken (seen rooms back) (seen rooms′ back) x y d
+taken-off rooms rooms′ back x y d lx ly h = record {
+  there = h .given;
+  elsewhere = λ i j li lj away. h .elsewhere (cell back i j)
+      (λ e. away (cell-first back x y i j lx ly li lj e) (cell-second back x y i j lx ly li lj e));
 }

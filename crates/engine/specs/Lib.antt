@@ -5,3 +5,4 @@ pub mod Searched
 pub mod Move
 pub mod Sweep
 pub mod Settle
+pub mod Raise

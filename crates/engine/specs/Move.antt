@@ -18,6 +18,11 @@ pub record Less (number number′ : ℕ → ℕ) (at d : ℕ) : Type 0 where
   pub given : number′ at + d ≡ number at
   pub elsewhere : (i : ℕ) → (i ≡ at → ⊥) → number′ i ≡ number i
 
+-- d is taken off the room from x to y
+pub record Taken (room room′ : ℕ → ℕ → ℕ) (x y d : ℕ) : Type 0 where
+  pub there : room′ x y + d ≡ room x y
+  pub elsewhere : (i j : ℕ) → i < side → j < side → (i ≡ x → j ≡ y → ⊥) → room′ i j ≡ room i j
+
 -- what is over at y pays for what is under at y
 pub record Paid (over under over′ under′ : ℕ → ℕ) (y : ℕ) : Type 0 where
   pub amount : ℕ

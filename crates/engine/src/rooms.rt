@@ -76,7 +76,7 @@ pub fn push(rooms: &mut [u32], back: bool, x: usize, y: usize, d: u32)
 
 // The lesser of two numbers.
 pub fn lesser(a: u32, b: u32) -> u32
-    ensures { λ r. ⌜ (r ≤ a) × (r ≤ b) × (0 < a → 0 < b → 0 < r) ⌝ }
+    ensures { λ r. ⌜ (r ≤ a) × (r ≤ b) × (0 < a → 0 < b → 0 < r) × (r < a → r ≡ b) ⌝ }
 {
     if a < b { a } else { b }
 }

@@ -8,3 +8,5 @@ pub mod Unique
 pub mod Demand3
 pub mod Refusals
 pub mod Wrong
+pub mod Narrowing
+pub mod First
