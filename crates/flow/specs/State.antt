@@ -6,7 +6,8 @@ use mathlib.Core.Bool.{_&&_}
 use lib.Dec.{eqb}
 use lib.IntN.{pos, _+ℤ_}
 use Rattle.numbers.specs.Sums.{sum-in}
-use Rattle.engine.specs.Room.{crossing}
+use Rattle.engine.specs.Room.{crossing, Small}
+use Rattle.engine.specs.Raise.{Balanced}
 use Rattle.plan.specs.Plan.{Plan, Set}
 use Rattle.plan.specs.Flow.{total}
 use Rattle.plan.specs.Shortage.{shortfall}
@@ -18,3 +19,9 @@ widths p x y = total p (λ k. p .high k - p .low k) (λ k. eqb (p .from k) x && 
 pub record Represents (p : Plan) (room : ℕ → ℕ → ℕ) (over under : ℕ → ℕ) : Type 0 where
   pub account : (S : Set) → shortfall p S +ℤ pos (crossing (p .nodes) room S + sum-in (p .nodes) S under) ≡ pos (sum-in (p .nodes) S over)
   pub pairs : (x y : ℕ) → x < p .nodes → y < p .nodes → (x ≡ y → ⊥) → room x y + room y x ≡ widths p x y + widths p y x
+
+-- a plan that has a flow, in balance: nothing is over, nothing is under
+pub record Ready (p : Plan) (room : ℕ → ℕ → ℕ) (over under : ℕ → ℕ) : Type 0 where
+  pub represents : Represents p room over under
+  pub balanced : Balanced (p .nodes) over under
+  pub small : Small (p .nodes) room under

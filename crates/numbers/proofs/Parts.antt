@@ -5,6 +5,7 @@ use Prim.Native.Nat.{ℕ, zero, suc, _+_, min, _≤_, _<_}
 use mathlib.Core.Path.{_≡_, refl, ap}
 use mathlib.Core.Bool.{Bool, true, false}
 use native.Mathlib.Omega.{arith}
+use native.Mathlib.Decide.{ℕ-discrete, decLe, map-dec}
 use lib.Dec.{ltb, ltb→lt, leb→le, le→leb, lt→ltb}
 use lib.IntN.{ℤ, pos, negsuc, negℤ, natAbs, subℕ, _+ℤ_, _-ℤ_}
 use lib.Signed.{_≤ℤ_, _<ℤ_, mag}
@@ -84,6 +85,13 @@ parts-eq (pos a) (pos b) h = ap pos (omega arith)
 parts-eq (pos a) (negsuc b) h = absurd (omega arith)
 parts-eq (negsuc a) (pos b) h = absurd (omega arith)
 parts-eq (negsuc a) (negsuc b) h = ap negsuc (omega arith)
+
+-- so both relations are decided, by their parts
+abbrev pub equalℤ : (a b : ℤ) → Dec (a ≡ b)
+equalℤ a b = map-dec (parts-eq a b) (eq-parts a b) (ℕ-discrete (plus a + minus b) (plus b + minus a))
+
+abbrev pub at-mostℤ : (a b : ℤ) → Dec (a ≤ℤ b)
+at-mostℤ a b = map-dec (parts-le a b) (le-parts a b) (decLe (plus a + minus b) (plus b + minus a))
 
 -- the magnitude of a number is its two parts, of which one is 0
 pub magnitude : (a : ℤ) → natAbs a ≡ plus a + minus a

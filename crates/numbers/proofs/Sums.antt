@@ -103,6 +103,10 @@ sum-picked (suc n) a f l = ⊎-elim
     before : a ≡ n → (i : ℕ) → i < n → only (eqb a i) (f i) ≡ 0
     before e i l′ = rw (ne-eqb a i (λ e′. omega arith))
 
+pub sumℤ-same : (n : ℕ) (f g : ℕ → ℤ) → ((i : ℕ) → i < n → f i ≡ g i) → sumℤ n f ≡ sumℤ n g
+sumℤ-same zero f g h = refl
+sumℤ-same (suc n) f g h = rw (sumℤ-same n f g (λ i l. h i (omega arith)), h n (omega arith))
+
 -- the two parts of a signed sum
 pub sumℤ-parts : (n : ℕ) (f : ℕ → ℤ) → plus (sumℤ n f) + sum n (λ i. minus (f i)) ≡ sum n (λ i. plus (f i)) + minus (sumℤ n f)
 sumℤ-parts zero f = refl
@@ -213,6 +217,14 @@ module _ (n : ℕ) (A : ℕ → Bool) where
       by : (part : ℤ → ℕ) → part (pos 0) ≡ 0 → (t : Bool) (z : ℤ) → part (onlyℤ t z) ≡ only t (part z)
       by part none true z = refl
       by part none false z = none
+
+-- equal sets of indices give equal sums
+module _ (n : ℕ) (A B : ℕ → Bool) (agree : (i : ℕ) → i < n → A i ≡ B i) where
+  pub sum-in-agree : (f : ℕ → ℕ) → sum-in n A f ≡ sum-in n B f
+  sum-in-agree f = sum-same n (λ i. only (A i) (f i)) (λ i. only (B i) (f i)) (λ i l. rw (agree i l))
+
+  pub sum-inℤ-agree : (f : ℕ → ℤ) → sum-inℤ n A f ≡ sum-inℤ n B f
+  sum-inℤ-agree f = sumℤ-same n (λ i. onlyℤ (A i) (f i)) (λ i. onlyℤ (B i) (f i)) (λ i l. rw (agree i l))
 
 -- a sum over a set of nodes of what the arcs bring to each is one sum over the arcs whose node is in the set
 pub sum-in-gathered : (n m : ℕ) (S : ℕ → Bool) (at f : ℕ → ℕ) → ((k : ℕ) → k < m → at k < n)

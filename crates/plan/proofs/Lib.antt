@@ -10,3 +10,6 @@ pub mod Refusals
 pub mod Wrong
 pub mod Narrowing
 pub mod First
+pub mod Sets
+pub mod Tried
+pub mod Worked
