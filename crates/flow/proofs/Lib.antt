@@ -1,3 +1,5 @@
 pub mod Building
 pub mod Marking
 pub mod Standing
+pub mod Holding
+pub mod OneArc

@@ -1,6 +1,6 @@
 -- A plan in the engine's numbers. For each pair of nodes the rooms both ways are the widths of the arcs between them; and for
 -- every set its shortfall, with the room that leads out of it and what is under in it, is what is over in it.
-use Prim.Native.Nat.{ℕ, _+_, _-_, _<_}
+use Prim.Native.Nat.{ℕ, _+_, _-_, _≤_, _<_}
 use mathlib.Core.Path.{_≡_}
 use mathlib.Core.Bool.{_&&_}
 use lib.Dec.{eqb}
@@ -8,8 +8,8 @@ use lib.IntN.{pos, _+ℤ_}
 use Rattle.numbers.specs.Sums.{sum-in}
 use Rattle.engine.specs.Room.{crossing, Small}
 use Rattle.engine.specs.Raise.{Balanced}
-use Rattle.plan.specs.Plan.{Plan, Set}
-use Rattle.plan.specs.Flow.{total}
+use Rattle.plan.specs.Plan.{Plan, Set, WellFormed}
+use Rattle.plan.specs.Flow.{total, Occurs}
 use Rattle.plan.specs.Shortage.{shortfall}
 
 -- the widths of the arcs from x to y, added up
@@ -25,3 +25,20 @@ pub record Ready (p : Plan) (room : ℕ → ℕ → ℕ) (over under : ℕ → �
   pub represents : Represents p room over under
   pub balanced : Balanced (p .nodes) over under
   pub small : Small (p .nodes) room under
+
+-- arc k of a plan that stands ready: it runs from a to b, and its range is low..high
+pub record Standing (p : Plan) (k n a b low high : ℕ) (room : ℕ → ℕ → ℕ) (over under : ℕ → ℕ) : Type 0 where
+  pub well-formed : WellFormed p
+  pub arc : k < p .arcs
+  pub nodes-are : p .nodes ≡ n
+  pub from-is : p .from k ≡ a
+  pub to-is : p .to k ≡ b
+  pub low-is : p .low k ≡ low
+  pub high-is : p .high k ≡ high
+  pub ready : Ready p room over under
+
+-- the count lies in the arc's range, and some flow has it on the arc
+pub record Possible (p : Plan) (k count : ℕ) : Type 0 where
+  pub least : p .low k ≤ count
+  pub most : count ≤ p .high k
+  pub occurs : Occurs p k count

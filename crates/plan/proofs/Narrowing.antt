@@ -101,7 +101,7 @@ module _ (p : Plan) (k : ℕ) (l : k < p .arcs) (x : ℕ) where
       none false false e y = (refl, refl)
 
   module _ (least : p .low k ≤ x) (most : x ≤ p .high k) where
-    held-well-formed : WellFormed p → WellFormed (held p k x)
+    pub held-well-formed : WellFormed p → WellFormed (held p k x)
     held-well-formed w = limited-well-formed w
         (λ j i. both-at (eqb j k) x (w .uncrossed j i))
         (λ j i. put-cases (λ n. n ≤ widest-high) (p .high) k x j (λ e. omega (arith, w .high-fits k l)) (λ ne. w .high-fits j i))
