@@ -33,10 +33,10 @@ module _ (p : Plan) (k : ℕ) (l : k < p .arcs) (c : ℕ) where
   widths-held x y = omega (
     arith,
     sum-change (p .arcs)
-      (λ j. only (eqb (p .from j) x && eqb (p .to j) y) (put (p .high) k c j - put (p .low) k c j))
-      (λ j. only (eqb (p .from j) x && eqb (p .to j) y) (p .high j - p .low j)) k l
-      (λ j lj ne. rw (put-elsewhere (p .high) k c j ne, put-elsewhere (p .low) k c j ne)),
-    none (eqb (p .from k) x && eqb (p .to k) y)
+        (λ j. only (eqb (p .from j) x && eqb (p .to j) y) (put (p .high) k c j - put (p .low) k c j))
+        (λ j. only (eqb (p .from j) x && eqb (p .to j) y) (p .high j - p .low j)) k l
+        (λ j lj ne. rw (put-elsewhere (p .high) k c j ne, put-elsewhere (p .low) k c j ne)),
+    none (eqb (p .from k) x && eqb (p .to k) y),
   )
     where
       none : (t : Bool) → only t (put (p .high) k c k - put (p .low) k c k) ≡ 0
@@ -47,8 +47,8 @@ module _ (p : Plan) (k : ℕ) (l : k < p .arcs) (c : ℕ) where
   unfolding ends
   ends-other x y away = by-cases (ℕ-discrete (p .from k) x)
       (λ ex. by-cases (ℕ-discrete (p .to k) y)
-        (λ ey. absurd (away (sym ex) (sym ey)))
-        (λ ny. rw (eq-eqb (p .from k) x ex, ne-eqb (p .to k) y ny)))
+      (λ ey. absurd (away (sym ex) (sym ey)))
+      (λ ny. rw (eq-eqb (p .from k) x ex, ne-eqb (p .to k) y ny)))
       (λ nx. rw (ne-eqb (p .from k) x nx))
 
   ends-itself : ends (p .from k) (p .to k) ≡ true
@@ -70,7 +70,7 @@ module _ (p : Plan) (k : ℕ) (l : k < p .arcs) (c : ℕ) where
     shortfall-parts p S,
     shortfall-parts (held p k c) S,
     sum-in-put (p .arcs) (leaves p S) (p .high) k c l,
-    sum-in-put (p .arcs) (enters p S) (p .low) k c l
+    sum-in-put (p .arcs) (enters p S) (p .low) k c l,
   )
 
   -- an arc's width lies in the rooms of its pair
@@ -79,7 +79,7 @@ module _ (p : Plan) (k : ℕ) (l : k < p .arcs) (c : ℕ) where
   width-in-pair w r ne = omega (
     arith,
     r .pairs (p .from k) (p .to k) (w .from-node k l) (w .to-node k l) (λ e. ne (sym e)),
-    widths-less
+    widths-less,
   )
 
   module _ (w : WellFormed p) {room room′ : ℕ → ℕ → ℕ} {over under over′ under′ : ℕ → ℕ} (y : Ready p room over under)
@@ -89,13 +89,13 @@ module _ (p : Plan) (k : ℕ) (l : k < p .arcs) (c : ℕ) where
     held-represents = record {
       account = λ S. by S (S (p .from k)) (S (p .to k)) (h .account S) (shortfall-held S);
       pairs = λ x z lx lz other. by-cases (ℕ-discrete x (p .from k))
-        (λ ex. by-cases (ℕ-discrete z (p .to k))
+          (λ ex. by-cases (ℕ-discrete z (p .to k))
           (λ ez. rw (ex, ez) own)
           (λ nz. plain x z lx lz other (λ e. nz) (λ e f. ne (sym e ∙ ex))))
-        (λ nx. by-cases (ℕ-discrete x (p .to k))
+          (λ nx. by-cases (ℕ-discrete x (p .to k))
           (λ ex. by-cases (ℕ-discrete z (p .from k))
-            (λ ez. rw (ex, ez) (omega (arith, own)))
-            (λ nz. plain x z lx lz other (λ e. absurd (nx e)) (λ e. nz)))
+          (λ ez. rw (ex, ez) (omega (arith, own)))
+          (λ nz. plain x z lx lz other (λ e. absurd (nx e)) (λ e. nz)))
           (λ ny. plain x z lx lz other (λ e. absurd (nx e)) (λ e. absurd (ny e))));
     }
       where
@@ -109,7 +109,7 @@ module _ (p : Plan) (k : ℕ) (l : k < p .arcs) (c : ℕ) where
         balance S = omega (
           whole,
           balanced-account (y .represents) (y .balanced) S,
-          add (shortfall p S) (pos (crossing (p .nodes) room S))
+          add (shortfall p S) (pos (crossing (p .nodes) room S)),
         )
 
         own : room′ (p .from k) (p .to k) + room′ (p .to k) (p .from k) ≡ widths (held p k c) (p .from k) (p .to k) + widths (held p k c) (p .to k) (p .from k)
@@ -118,7 +118,7 @@ module _ (p : Plan) (k : ℕ) (l : k < p .arcs) (c : ℕ) where
           h .pair,
           y .represents .pairs (p .from k) (p .to k) (w .from-node k l) (w .to-node k l) (λ e. ne (sym e)),
           widths-less,
-          widths-same (p .to k) (p .from k) (λ e. absurd (ne e))
+          widths-same (p .to k) (p .from k) (λ e. absurd (ne e)),
         )
 
         plain : (x z : ℕ) → x < p .nodes → z < p .nodes → (x ≡ z → ⊥) → (x ≡ p .from k → z ≡ p .to k → ⊥) → (x ≡ p .to k → z ≡ p .from k → ⊥)
@@ -128,7 +128,7 @@ module _ (p : Plan) (k : ℕ) (l : k < p .arcs) (c : ℕ) where
           h .pairs x z lx lz a b,
           y .represents .pairs x z lx lz other,
           widths-same x z a,
-          widths-same z x (λ e f. b f e)
+          widths-same z x (λ e f. b f e),
         )
 
         by : (S : Set) (s t : Bool)
@@ -151,13 +151,13 @@ module _ (p : Plan) (k : ℕ) (l : k < p .arcs) (c : ℕ) where
         y .represents .pairs x z lx lz other,
         y .small .pairs-small x z lx lz other,
         widths-held x z,
-        widths-held z x
+        widths-held z x,
       );
       under-small = omega (
         arith,
         h .under-less,
         sum-in-zero (p .nodes) (λ v. true) under (λ v lv i. y .balanced .none-under v lv),
-        w .high-fits k l
+        w .high-fits k l,
       );
     }
 
@@ -172,13 +172,13 @@ module _ (p : Plan) (k : ℕ) (l : k < p .arcs) (c : ℕ) where
       inside S,
       outside S,
       add (shortfall p S) (pos (crossing (p .nodes) room S + sum-in (p .nodes) S under)),
-      add (shortfall (held p k c) S) (pos (crossing (p .nodes) room S + sum-in (p .nodes) S under))
+      add (shortfall (held p k c) S) (pos (crossing (p .nodes) room S + sum-in (p .nodes) S under)),
     );
     pairs = λ x z lx lz other. omega (
       arith,
       r .pairs x z lx lz other,
       widths-same x z (λ e f. other (e ∙ loop ∙ sym f)),
-      widths-same z x (λ e f. other (f ∙ sym loop ∙ sym e))
+      widths-same z x (λ e f. other (f ∙ sym loop ∙ sym e)),
     );
   }
     where

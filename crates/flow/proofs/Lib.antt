@@ -3,3 +3,4 @@ pub mod Marking
 pub mod Standing
 pub mod Holding
 pub mod OneArc
+pub mod Firsts

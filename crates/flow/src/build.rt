@@ -48,7 +48,7 @@ fn enter_supplies(supplies: &[i32], over: &mut [u32], under: &mut [u32])
 }
 
 // Arc k of a list of arcs.
-fn arc_at(arcs: &[u32], k: usize) -> Arc
+pub fn arc_at(arcs: &[u32], k: usize) -> Arc
     requires { ⌜ k < length (now arcs) / arc-entries ⌝ }
     ensures { λ r. ⌜ r ≡ record { from = at (now (arcs .entry)) (k * arc-entries); to = at (now (arcs .entry)) (k * arc-entries + 1); low = at (now (arcs .entry)) (k * arc-entries + 2); high = at (now (arcs .entry)) (k * arc-entries + 3) } ⌝ }
 {

@@ -1,6 +1,8 @@
 // An arc's smallest count over all flows, and an arc held at a count: a page each over the engine. The
 // state is a plan's that has a flow, in balance, before and after. Internal.
-use engine::raise::{hold, raise, rebalance};
+use engine::raise::hold;
+use engine::raise::raise;
+use engine::raise::rebalance;
 ghost use mathlib.Core.Path.{_≡_};
 ghost use mathlib.Core.Bool.{false};
 ghost use Prim.Native.Nat.{ℕ, _≤_};
@@ -13,8 +15,17 @@ ghost use Rattle.flow.specs.State.{Ready, Standing, Possible};
 
 // The smallest count over all flows of the arc from a to b.
 pub fn smallest(
-    rooms: &mut [u32], over: &mut [u32], under: &mut [u32], n: usize, a: usize, b: usize, low: u32, high: u32,
-    marks: &mut [u8], order: &mut [usize], finder: &mut [usize],
+    rooms: &mut [u32],
+    over: &mut [u32],
+    under: &mut [u32],
+    n: usize,
+    a: usize,
+    b: usize,
+    low: u32,
+    high: u32,
+    marks: &mut [u8],
+    order: &mut [usize],
+    finder: &mut [usize],
 ) -> u32
     requires lent { ⌜ Lent n (now rooms) (now over) (now under) ⌝ }
     requires desk { ⌜ Desk n (now marks) (now order) (now finder) ⌝ }
@@ -24,15 +35,37 @@ pub fn smallest(
     if a == b {
         return low;
     }
-    let free = raise(rooms, false, over, under, n, a, b, high - low, marks, order, finder);
+    let free = raise(
+        rooms,
+        false,
+        over,
+        under,
+        n,
+        a,
+        b,
+        high - low,
+        marks,
+        order,
+        finder,
+    );
     rebalance(rooms, over, under, n, marks, order, finder);
     high - free
 }
 
 // Holds the arc from a to b at a count that some flow has on it.
 pub fn hold_at(
-    rooms: &mut [u32], over: &mut [u32], under: &mut [u32], n: usize, a: usize, b: usize, low: u32, high: u32,
-    count: u32, marks: &mut [u8], order: &mut [usize], finder: &mut [usize],
+    rooms: &mut [u32],
+    over: &mut [u32],
+    under: &mut [u32],
+    n: usize,
+    a: usize,
+    b: usize,
+    low: u32,
+    high: u32,
+    count: u32,
+    marks: &mut [u8],
+    order: &mut [usize],
+    finder: &mut [usize],
 )
     requires lent { ⌜ Lent n (now rooms) (now over) (now under) ⌝ }
     requires desk { ⌜ Desk n (now marks) (now order) (now finder) ⌝ }

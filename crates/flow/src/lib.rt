@@ -2,4 +2,5 @@
 // `plan` for what is meant and `engine` for moving.
 pub mod build;
 pub mod counts;
+pub mod first;
 pub mod marks;

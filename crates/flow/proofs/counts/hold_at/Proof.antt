@@ -38,9 +38,10 @@ rebalance-requires c κs =
     let st = pre .1 .1 .1 .1 .0 in
     let possible = pre .1 .1 .1 .1 .1 in
     let ne : c .before .before .before .before .before .before .before .before .before .before .before .before .before .before .before .before .before .before .before .before .before .before .before .args .b ≡ c .before .before .before .before .before .before .before .before .before .before .before .before .before .before .before .before .before .before .before .before .before .before .before .args .a → ⊥ = λ e. c .before .before .before .before .before .before .before .before .before .before .before .before .before .before .before .before .if1 .left (sym e) in
-    let h = c .before .before .before .before .before .before .before .before .before .before .before .before .hold .ensures in
-    (lent-still (record { first-length = c .before .before .before .before .before .before .before .before .before .before .before .before .hold .kept .0; second-length = c .before .before .before .before .before .before .before .before .before .before .before .before .hold .kept .1 .0; third-length = c .before .before .before .before .before .before .before .before .before .before .before .before .hold .kept .1 .1 .0 }) (pre .0),
-    (rw (st .nodes-are) at (standing-held-small st possible ne h), (pre .1 .0, standing-held-covered st possible ne h)))
+    let h = c .before .before .before .before .before .before .before .before .before .before .before .before .hold .ensures in (
+      lent-still (record { first-length = c .before .before .before .before .before .before .before .before .before .before .before .before .hold .kept .0; second-length = c .before .before .before .before .before .before .before .before .before .before .before .before .hold .kept .1 .0; third-length = c .before .before .before .before .before .before .before .before .before .before .before .before .hold .kept .1 .1 .0 }) (pre .0),
+      (rw (st .nodes-are) at (standing-held-small st possible ne h), (pre .1 .0, standing-held-covered st possible ne h)),
+    )
 
 -- src/counts.rt:33:1
 same-length : tie.Need-same-length

@@ -33,11 +33,16 @@ rebalance-requires c κs =
     let pre = c .before .before .before .before .before .before .before .before .before .before .before .before .before .before .before .before .before .before .before .before .before .before .before .before .before .before .before .before .before .before .before .before .pre in
     let st = pre .1 .1 .1 .1 in
     let r = c .before .before .before .before .before .before .before .before .before .before .before .before .before .before .before .before .before .before .raise .ensures in
-    let flows = ready-flow (st .well-formed) (st .ready) in
-    (lent-still (record { first-length = c .before .before .before .before .before .before .before .before .before .before .before .before .before .before .before .before .before .before .raise .kept .0; second-length = c .before .before .before .before .before .before .before .before .before .before .before .before .before .before .before .before .before .before .raise .kept .1 .1 .0; third-length = c .before .before .before .before .before .before .before .before .before .before .before .before .before .before .before .before .before .before .raise .kept .1 .1 .1 .0 }) (pre .0),
-    (rw (st .nodes-are) at (standing-raised-small st r),
-    (desk-still (record { first-length = c .before .before .before .before .before .before .before .before .before .before .before .before .before .before .before .before .before .before .raise .kept .1 .1 .1 .1 .1 .1 .1 .1 .0; second-length = c .before .before .before .before .before .before .before .before .before .before .before .before .before .before .before .before .before .before .raise .kept .1 .1 .1 .1 .1 .1 .1 .1 .1 .0; third-length = c .before .before .before .before .before .before .before .before .before .before .before .before .before .before .before .before .before .before .raise .kept .1 .1 .1 .1 .1 .1 .1 .1 .1 .1 .0 }) (pre .1 .0),
-    rw (st .nodes-are) at (flow-none-short (standing-raised st r) (st .well-formed) (flows .0) (flows .1)))))
+    let flows = ready-flow (st .well-formed) (st .ready) in (
+      lent-still (record { first-length = c .before .before .before .before .before .before .before .before .before .before .before .before .before .before .before .before .before .before .raise .kept .0; second-length = c .before .before .before .before .before .before .before .before .before .before .before .before .before .before .before .before .before .before .raise .kept .1 .1 .0; third-length = c .before .before .before .before .before .before .before .before .before .before .before .before .before .before .before .before .before .before .raise .kept .1 .1 .1 .0 }) (pre .0),
+      (
+        rw (st .nodes-are) at (standing-raised-small st r),
+        (
+          desk-still (record { first-length = c .before .before .before .before .before .before .before .before .before .before .before .before .before .before .before .before .before .before .raise .kept .1 .1 .1 .1 .1 .1 .1 .1 .0; second-length = c .before .before .before .before .before .before .before .before .before .before .before .before .before .before .before .before .before .before .raise .kept .1 .1 .1 .1 .1 .1 .1 .1 .1 .0; third-length = c .before .before .before .before .before .before .before .before .before .before .before .before .before .before .before .before .before .before .raise .kept .1 .1 .1 .1 .1 .1 .1 .1 .1 .1 .0 }) (pre .1 .0),
+          rw (st .nodes-are) at (flow-none-short (standing-raised st r) (st .well-formed) (flows .0) (flows .1)),
+        ),
+      ),
+    )
 
 -- src/counts.rt:29:5
 sub-result : tie.Need-sub-result
@@ -70,8 +75,10 @@ same-length-6 c = search needs
 -- src/counts.rt:15:1
 returns-2 : tie.Need-returns-2
 returns-2 c =
-    λ p k st. (standing-smallest st (c .before .before .before .before .before .before .before .before .before .before .before .before .before .before .before .before .before .before .before .before .before .before .before .before .before .before .before .before .before .before .before .raise .ensures),
-    again-ready (st .nodes-are) (standing-raised st (c .before .before .before .before .before .before .before .before .before .before .before .before .before .before .before .before .before .before .before .before .before .before .before .before .before .before .before .before .before .before .before .raise .ensures)) (standing-raised-small st (c .before .before .before .before .before .before .before .before .before .before .before .before .before .before .before .before .before .before .before .before .before .before .before .before .before .before .before .before .before .before .before .raise .ensures)) (c .before .before .before .before .before .before .before .before .before .before .before .before .rebalance .ensures .0) (c .before .before .before .before .before .before .before .before .before .before .before .before .rebalance .ensures .1))
+    λ p k st. (
+      standing-smallest st (c .before .before .before .before .before .before .before .before .before .before .before .before .before .before .before .before .before .before .before .before .before .before .before .before .before .before .before .before .before .before .before .raise .ensures),
+      again-ready (st .nodes-are) (standing-raised st (c .before .before .before .before .before .before .before .before .before .before .before .before .before .before .before .before .before .before .before .before .before .before .before .before .before .before .before .before .before .before .before .raise .ensures)) (standing-raised-small st (c .before .before .before .before .before .before .before .before .before .before .before .before .before .before .before .before .before .before .before .before .before .before .before .before .before .before .before .before .before .before .before .raise .ensures)) (c .before .before .before .before .before .before .before .before .before .before .before .before .rebalance .ensures .0) (c .before .before .before .before .before .before .before .before .before .before .before .before .rebalance .ensures .1),
+    )
 
 pub smallest-spec : {M : Type 1} → statement M
 smallest-spec =
