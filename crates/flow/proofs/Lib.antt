@@ -4,3 +4,5 @@ pub mod Standing
 pub mod Holding
 pub mod OneArc
 pub mod Firsts
+pub mod Asking
+pub mod Accepting

@@ -68,6 +68,16 @@ module _ {p : Plan} {room : ℕ → ℕ → ℕ} {over under : ℕ → ℕ} (r :
     pairs = λ x y lx ly ne. sym (k .pairs x y lx ly) ∙ r .pairs x y lx ly ne;
   }
 
+  -- in all as much is over as under
+  pub even-in-all : WellFormed p → sum (p .nodes) over ≡ sum (p .nodes) under
+  even-in-all w = omega (
+    whole,
+    r .account (λ v. true),
+    add (shortfall p (λ v. true)) (pos (crossing (p .nodes) room (λ v. true) + sum (p .nodes) under)),
+    shortfall-all p w,
+    crossing-all (p .nodes) room,
+  )
+
   -- where the plan has a flow no set is short
   pub flow-none-short : WellFormed p → (f : ℕ → ℕ) → Flow p f → NoneShort (p .nodes) room over under
   flow-none-short w f c = record {
@@ -77,13 +87,7 @@ module _ {p : Plan} {room : ℕ → ℕ → ℕ} {over under : ℕ → ℕ} (r :
       add (shortfall p S) (pos (crossing (p .nodes) room S + sum-in (p .nodes) S under)),
       flow-leaves-no-shortfall p w f c S,
     );
-    even = omega (
-      whole,
-      r .account (λ v. true),
-      add (shortfall p (λ v. true)) (pos (crossing (p .nodes) room (λ v. true) + sum (p .nodes) under)),
-      shortfall-all p w,
-      crossing-all (p .nodes) room,
-    );
+    even = even-in-all w;
   }
 
 -- ---- an arc that is raised

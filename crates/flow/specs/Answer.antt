@@ -1,0 +1,65 @@
+-- What the flow question answers, in document 01's words, and what it leaves in the two lent buffers.
+use Prim.Native.Nat.{ℕ, _≤_}
+use mathlib.Core.Path.{_≡_}
+use mathlib.Core.Bool.{Bool, _||_}
+use mathlib.Core.List.{List}
+use lib.Dec.{ltb}
+use lib.IntN.{ℤ, pos}
+use lib.ListN.{length}
+use lib.Signed.{_<ℤ_}
+use Rattle.numbers.specs.Sums.{only}
+use Rattle.engine.specs.Room.{at}
+use Rattle.plan.specs.Plan.{Plan, Set}
+use Rattle.plan.specs.Verdict.{verdict, network-rules}
+use Rattle.plan.specs.Flow.{FirstFlow}
+use Rattle.plan.specs.Shortage.{shortfall, Shortage}
+use Rattle.plan.specs.Reason.{no-marks}
+use Rattle.plan.specs.declared.Verdict.the-variants.{Accepted, Refused as TurnedDown}
+use Rattle.flow.specs.Written.{Written}
+use Rattle.flow.specs.declared.Asked.{Asked}
+use Rattle.flow.specs.declared.Asked.the-variants.{Balances, Lacks}
+use Rattle.flow.specs.declared.Answer.{Answer}
+use Rattle.flow.specs.declared.Answer.the-variants.{Runs, Short, Refused}
+
+-- the paper's number for each answer, and the value or the place that goes with it
+abbrev pub number : Answer → ℕ
+number Runs = 0
+number (Short value) = 9
+number (Refused n place) = n
+
+-- a lent buffer is too short for what the question may write: an entry for each arc, and one for each node
+abbrev pub lent-short : Plan → (arcs nodes : List ℕ) → Bool
+lent-short p arcs nodes = ltb (length arcs) (p .arcs) || ltb (length nodes) (p .nodes)
+
+-- a "no": the greatest shortfall, the marks of the shortage set, and the marks of the bounds that its sum cites
+pub record Lacking (p : Plan) (value : ℤ) (arcs nodes arcs′ nodes′ : List ℕ) : Type 0 where
+  pub set : Set
+  pub shortage : Shortage p set
+  pub value-is : shortfall p set ≡ value
+  pub positive : pos 0 <ℤ value
+  pub node-marks : Written (λ v. only (set v) 1) (p .nodes) nodes nodes′
+  pub arc-marks : Written (no-marks p set) (p .arcs) arcs arcs′
+
+-- a flow: the first one in the arc buffer
+pub record Flowing (p : Plan) (arcs arcs′ : List ℕ) : Type 0 where
+  pub first : FirstFlow p (at arcs′)
+  pub past : (i : ℕ) → p .arcs ≤ i → at arcs′ i ≡ at arcs i
+
+-- what a plan that is accepted is told, and how the buffers are left
+abbrev pub Told : Plan → (arcs nodes arcs′ nodes′ : List ℕ) → Asked → Type 0
+Told p arcs nodes arcs′ nodes′ Balances = Flowing p arcs arcs′ × (nodes′ ≡ nodes)
+Told p arcs nodes arcs′ nodes′ (Lacks value) = Lacking p value arcs nodes arcs′ nodes′
+
+-- what the question answers of a plan, and how it leaves the buffers, for every input
+abbrev pub Says : Plan → (arcs nodes arcs′ nodes′ : List ℕ) → Answer → Type 0
+Says p arcs nodes arcs′ nodes′ Runs =
+    (verdict (network-rules p (lent-short p arcs nodes)) ≡ Accepted) × Told p arcs nodes arcs′ nodes′ Balances
+Says p arcs nodes arcs′ nodes′ (Short value) =
+    (verdict (network-rules p (lent-short p arcs nodes)) ≡ Accepted) × Told p arcs nodes arcs′ nodes′ (Lacks value)
+Says p arcs nodes arcs′ nodes′ (Refused n place) =
+    (verdict (network-rules p (lent-short p arcs nodes)) ≡ TurnedDown n place) × (arcs′ ≡ arcs) × (nodes′ ≡ nodes)
+
+pub record FlowAnswers (p : Plan) (arcs nodes arcs′ nodes′ : List ℕ) (answer : Answer) : Type 0 where
+  pub says : Says p arcs nodes arcs′ nodes′ answer
+  pub arcs-length : length arcs′ ≡ length arcs
+  pub nodes-length : length nodes′ ≡ length nodes

@@ -1,0 +1,122 @@
+// The flow question of document 01, for every input.
+use crate::Answer;
+use crate::Asked;
+use crate::ask::ask;
+use crate::first::first_flow;
+use crate::marks::mark_arcs;
+use crate::marks::mark_nodes;
+use engine::rooms::Rooms;
+use plan::Plan;
+use plan::Verdict;
+use plan::network::check;
+ghost use mathlib.Core.Path.{_≡_};
+ghost use mathlib.Core.Bool.{_||_};
+ghost use Prim.Native.Nat.{ℕ, _≤_, _/_};
+ghost use lib.Dec.{ltb};
+ghost use lib.ListN.{length};
+ghost use Rattle.engine.specs.Room.{at, Lent};
+ghost use Rattle.engine.specs.Searched.{Desk};
+ghost use Rattle.plan.specs.Limits.{arc-entries};
+ghost use Rattle.plan.specs.Plan.{WellFormed, plan-of};
+ghost use Rattle.flow.specs.Answer.{Told, FlowAnswers};
+
+// Whether the one buffer has less than m entries, or the other less than n.
+fn too_short(arc_entries: usize, m: usize, node_entries: usize, n: usize) -> bool
+    ensures { λ r. ⌜ r ≡ (ltb «arc_entries» m || ltb «node_entries» n) ⌝ }
+{
+    if arc_entries < m {
+        return true;
+    }
+    node_entries < n
+}
+
+// Works a well-formed plan out on a desk that is lent: rooms, over and under hold zeros.
+fn work_out_on(
+    arcs: &[u32],
+    supplies: &[i32],
+    arc_buffer: &mut [u32],
+    node_buffer: &mut [u8],
+    rooms: &mut [u32],
+    over: &mut [u32],
+    under: &mut [u32],
+    marks: &mut [u8],
+    order: &mut [usize],
+    finder: &mut [usize],
+) -> Asked
+    requires plan { ⌜ WellFormed (plan-of (now arcs) (now supplies)) ⌝ }
+    requires whole { ⌜ (length (now arcs) / arc-entries ≤ length (now «arc_buffer»)) × (length (now supplies) ≤ length (now «node_buffer»)) ⌝ }
+    requires lent { ⌜ Lent (length (now supplies)) (now rooms) (now over) (now under) ⌝ }
+    requires empty { ⌜ ((i : ℕ) → (at (now rooms) i ≡ 0) × (at (now over) i ≡ 0) × (at (now under) i ≡ 0)) ⌝ }
+    requires desk { ⌜ Desk (length (now supplies)) (now marks) (now order) (now finder) ⌝ }
+    ensures { λ r. ⌜ Told (plan-of (now (arcs .entry)) (now (supplies .entry))) (now («arc_buffer» .entry)) (now («node_buffer» .entry)) (now («arc_buffer» .exit)) (now («node_buffer» .exit)) r ⌝ }
+{
+    let asked = ask(arcs, supplies, rooms, over, under, marks, order, finder);
+    let Asked::Lacks(value) = asked else {
+        first_flow(
+            arcs,
+            supplies,
+            arc_buffer,
+            rooms,
+            over,
+            under,
+            marks,
+            order,
+            finder,
+        );
+        return Asked::Balances;
+    };
+    mark_nodes(marks, supplies.len(), node_buffer);
+    mark_arcs(arcs, supplies, marks, arc_buffer);
+    Asked::Lacks(value)
+}
+
+// Works a well-formed plan out: the first flow, or the marks of the shortage set and of what it cites.
+fn work_out(arcs: &[u32], supplies: &[i32], arc_buffer: &mut [u32], node_buffer: &mut [u8]) -> Asked
+    requires plan { ⌜ WellFormed (plan-of (now arcs) (now supplies)) ⌝ }
+    requires whole { ⌜ (length (now arcs) / arc-entries ≤ length (now «arc_buffer»)) × (length (now supplies) ≤ length (now «node_buffer»)) ⌝ }
+    ensures { λ r. ⌜ Told (plan-of (now (arcs .entry)) (now (supplies .entry))) (now («arc_buffer» .entry)) (now («node_buffer» .entry)) (now («arc_buffer» .exit)) (now («node_buffer» .exit)) r ⌝ }
+{
+    let mut rooms = [0u32; Rooms::CELLS];
+    let mut over = [0u32; Plan::MOST_NODES];
+    let mut under = [0u32; Plan::MOST_NODES];
+    let mut marks = [0u8; Plan::MOST_NODES];
+    let mut order = [0usize; Plan::MOST_NODES];
+    let mut finder = [0usize; Plan::MOST_NODES];
+    work_out_on(
+        arcs,
+        supplies,
+        arc_buffer,
+        node_buffer,
+        &mut rooms,
+        &mut over,
+        &mut under,
+        &mut marks,
+        &mut order,
+        &mut finder,
+    )
+}
+
+// Whether a whole-number flow f exists with low ≤ f ≤ high on every arc and, at every node, what goes out
+// minus what comes in equal to the supply. If so the arc buffer gets the first one and the node buffer
+// stays. If not, the set S of greatest Σ supplies(S) - Σ highs leaving S + Σ lows entering S, the least of
+// these, is marked in the node buffer, and the bounds in its sum in the arc buffer: no flow exists, since
+// every flow keeps that sum at or below 0. If the input is turned down, both buffers stay.
+pub fn question(
+    arcs: &[u32],
+    supplies: &[i32],
+    arc_buffer: &mut [u32],
+    node_buffer: &mut [u8],
+) -> Answer
+    ensures { λ r. ⌜ FlowAnswers (plan-of (now (arcs .entry)) (now (supplies .entry))) (now («arc_buffer» .entry)) (now («node_buffer» .entry)) (now («arc_buffer» .exit)) (now («node_buffer» .exit)) r ⌝ }
+{
+    let size = Plan::of(arcs, supplies);
+    let short = too_short(arc_buffer.len(), size.arcs, node_buffer.len(), size.nodes);
+    let verdict = check(arcs, supplies, short);
+    if let Verdict::Refused(number, index) = verdict {
+        return Answer::Refused(number, index);
+    }
+    let Asked::Lacks(value) = work_out(arcs, supplies, arc_buffer, node_buffer) else {
+        return Answer::Runs;
+    };
+    Answer::Short(value)
+}
