@@ -117,6 +117,14 @@ module _ {n : ℕ} {room room′ : ℕ → ℕ → ℕ} {over under over′ unde
     );
   }
 
+-- a state that keeps the accounts of one in which no set is short
+pub kept-covered : {n : ℕ} {room room′ : ℕ → ℕ → ℕ} {over under over′ under′ : ℕ → ℕ} → NoneShort n room over under
+    → Kept n room over under room′ over′ under′ → NoneShort n room′ over′ under′
+kept-covered {n} {room} {room′} s k = record {
+  covered = λ S. omega (arith, s .covered S, k .account S);
+  even = omega (arith, s .even, k .account (λ v. true), crossing-all n room, crossing-all n room′);
+}
+
 -- ---- shifting
 
 pub same-on : {n : ℕ} {room room′ room″ : ℕ → ℕ → ℕ} {over under over′ under′ over″ under″ : ℕ → ℕ}

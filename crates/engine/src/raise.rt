@@ -8,6 +8,8 @@ use crate::rooms::push;
 use crate::rooms::room_of;
 use crate::rooms::take;
 use crate::settle::settle;
+use crate::sweep::move_on;
+use crate::sweep::pay;
 ghost use mathlib.Core.Path.{_≡_};
 ghost use mathlib.Core.Bool.{false};
 ghost use Prim.Native.Nat.{ℕ, _+_, _*_, _^_, _≤_, _<_};
@@ -155,6 +157,25 @@ fn make_room(
     if back < home {
         shift(rooms, false, over, under, n, b, a, home - back);
     }
+}
+
+// What lacks at b is moved straight back to a, at most the direct room, and paid there: after raising,
+// that is mostly all there is, and no search is needed for it.
+pub fn bring_back(
+    rooms: &mut [u32],
+    over: &mut [u32],
+    under: &mut [u32],
+    n: usize,
+    a: usize,
+    b: usize,
+)
+    requires lent { ⌜ Lent n (now rooms) (now over) (now under) ⌝ }
+    requires small { ⌜ Small n (seen (now rooms) false) (at (now under)) ⌝ }
+    requires nodes { ⌜ (a < n) × (b < n) × (b ≡ a → ⊥) ⌝ }
+    ensures { λ r. ⌜ Kept n (seen (now (rooms .entry)) false) (at (now (over .entry))) (at (now (under .entry))) (seen (now (rooms .exit)) false) (at (now (over .exit))) (at (now (under .exit))) ⌝ }
+{
+    move_on(rooms, false, under, a, b);
+    pay(over, under, a);
 }
 
 // Takes d off the room from x to y.

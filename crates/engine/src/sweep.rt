@@ -25,7 +25,7 @@ pub fn pay(over: &mut [u32], under: &mut [u32], y: usize)
 }
 
 // What lacks at y is moved on to x, at most the room from x to y.
-fn move_on(rooms: &mut [u32], back: bool, under: &mut [u32], x: usize, y: usize)
+pub fn move_on(rooms: &mut [u32], back: bool, under: &mut [u32], x: usize, y: usize)
     requires whole { ⌜ side * side ≤ length (now rooms) ⌝ }
     requires nodes { ⌜ (x < side) × (y < side) × (x ≡ y → ⊥) ⌝ }
     requires under { ⌜ (x < length (now under)) × (y < length (now under)) ⌝ }

@@ -6,3 +6,4 @@ pub mod OneArc
 pub mod Firsts
 pub mod Asking
 pub mod Accepting
+pub mod Unique

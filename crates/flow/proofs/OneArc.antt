@@ -7,7 +7,7 @@ use native.Mathlib.Omega.{arith}
 use Rattle.numbers.proofs.Sums.{put-cases}
 use Rattle.engine.specs.Room.{Small, Kept}
 use Rattle.engine.specs.Raise.{Balanced, NoneShort, Raised, HeldOut}
-use Rattle.engine.proofs.Sweeping.{kept-small}
+use Rattle.engine.proofs.Sweeping.{kept-on, kept-small}
 use Rattle.plan.specs.Plan.{Plan, WellFormed}
 use Rattle.plan.specs.Flow.{Flow, Occurs, Smallest, held}
 use Rattle.plan.proofs.Narrowing.{held-well-formed, loop-smallest}
@@ -61,6 +61,17 @@ module _ {p : Plan} {k n a b low high : ℕ} {room : ℕ → ℕ → ℕ} {over 
     pub standing-raised-small : Small (p .nodes) room′ under′
     standing-raised-small =
         raised-small (st .well-formed) (st .ready) own (omega (arith, st .well-formed .high-fits k (st .arc)))
+
+    -- no set is short after raising, nor after what keeps the accounts
+    pub standing-raised-covered : NoneShort n room′ over′ under′
+    standing-raised-covered =
+        let flows = ready-flow (st .well-formed) (st .ready) in
+        rw (st .nodes-are) at (flow-none-short standing-raised (st .well-formed) (flows .0) (flows .1))
+
+    -- balanced again, the plan stands ready
+    pub standing-again : {room₂ room₃ : ℕ → ℕ → ℕ} {over₂ under₂ over₃ under₃ : ℕ → ℕ} → Kept n room′ over′ under′ room₂ over₂ under₂
+        → Kept n room₂ over₂ under₂ room₃ over₃ under₃ → Balanced n over₃ under₃ → Ready p room₃ over₃ under₃
+    standing-again k k′ = again-ready (st .nodes-are) standing-raised standing-raised-small (kept-on k k′)
 
   pub standing-loop : b ≡ a → Smallest p k low
   standing-loop e = rw (st .low-is) at

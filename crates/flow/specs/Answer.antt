@@ -21,7 +21,7 @@ use Rattle.flow.specs.declared.Asked.the-variants.{Balances, Lacks}
 use Rattle.flow.specs.declared.Answer.{Answer}
 use Rattle.flow.specs.declared.Answer.the-variants.{Runs, Short, Refused}
 
--- the paper's number for each answer, and the value or the place that goes with it
+-- the number that document 01 gives each answer, 0 for a flow
 abbrev pub number : Answer → ℕ
 number Runs = 0
 number (Short value) = 9

@@ -1,5 +1,6 @@
 // An arc's smallest count over all flows, and an arc held at a count: a page each over the engine. The
 // state is a plan's that has a flow, in balance, before and after. Internal.
+use engine::raise::bring_back;
 use engine::raise::hold;
 use engine::raise::raise;
 use engine::raise::rebalance;
@@ -48,6 +49,7 @@ pub fn smallest(
         order,
         finder,
     );
+    bring_back(rooms, over, under, n, a, b);
     rebalance(rooms, over, under, n, marks, order, finder);
     high - free
 }

@@ -1,3 +1,4 @@
+-- What is shifted and then settled stops at the least room across.
 use Rattle.engine.proofs.Raising.{shifted-small, stopped}
 use Rattle.engine.proofs.Sweeping.{lent-still}
 use mathlib.Core.Path.{sym}
@@ -5,12 +6,7 @@ use native.Mathlib.Omega.{arith}
 use borrow.Author.Needs.{needs}
 use Rattle.engine.proofs.raise.go_round.Statement.{statement}
 use Rattle.engine.proofs.raise.go_round.Tie as tie
-use Rattle.engine.proofs.raise.go_round.Reads as reads
-use Rattle.engine.proofs.raise.go_round.Lts as lts
-use Rattle.engine.proofs.raise.shift.Reads as shift-reads
-use Rattle.engine.proofs.settle.settle.Reads as settle-reads
 
--- src/raise.rt:54:5
 shift-requires : tie.Need-shift-requires
 shift-requires c κs =
     let pre = c .before .before .before .before .before .before .before .before .before .pre in
@@ -28,7 +24,6 @@ shift-requires c κs =
       ),
     )
 
--- src/raise.rt:55:5
 settle-requires : tie.Need-settle-requires
 settle-requires c κs =
     let pre = c .before .before .before .before .before .before .before .before .before .before .before .before .before .before .before .before .before .before .before .before .before .before .pre in
@@ -40,31 +35,24 @@ settle-requires c κs =
       ),
     )
 
--- src/raise.rt:42:1
 same-length : tie.Need-same-length
 same-length c = search needs
 
--- src/raise.rt:42:1
 same-length-2 : tie.Need-same-length-2
 same-length-2 c = search needs
 
--- src/raise.rt:42:1
 same-length-3 : tie.Need-same-length-3
 same-length-3 c = search needs
 
--- src/raise.rt:42:1
 same-length-4 : tie.Need-same-length-4
 same-length-4 c = search needs
 
--- src/raise.rt:42:1
 same-length-5 : tie.Need-same-length-5
 same-length-5 c = search needs
 
--- src/raise.rt:42:1
 same-length-6 : tie.Need-same-length-6
 same-length-6 c = search needs
 
--- src/raise.rt:42:1
 returns : tie.Need-returns
 returns c =
     let pre = c .before .before .before .before .before .before .before .before .before .before .before .before .before .before .before .before .before .before .before .before .before .before .before .before .before .before .before .before .before .before .before .before .before .before .before .pre in

@@ -1,22 +1,16 @@
+-- Room is made for both shares, and each is taken off its side.
 use Rattle.engine.proofs.Raising.{taken-holds}
 use native.Mathlib.Omega.{arith}
 use borrow.Author.Needs.{needs}
 use Rattle.engine.proofs.raise.hold.Statement.{statement}
 use Rattle.engine.proofs.raise.hold.Tie as tie
-use Rattle.engine.proofs.raise.hold.Reads as reads
-use Rattle.engine.proofs.raise.hold.Lts as lts
-use Rattle.engine.proofs.raise.make_room.Reads as make-room-reads
-use Rattle.engine.proofs.raise.take_room.Reads as take-room-reads
 
--- src/raise.rt:121:5
 make-room-requires : tie.Need-make-room-requires
 make-room-requires c κs = search needs
 
--- src/raise.rt:122:5
 take-room-requires : tie.Need-take-room-requires
 take-room-requires c κs = search needs
 
--- src/raise.rt:123:5
 take-room-requires-2 : tie.Need-take-room-requires-2
 take-room-requires-2 c κs =
     let pre = c .before .before .before .before .before .before .before .before .before .before .before .before .before .before .before .before .before .before .pre in
@@ -28,19 +22,15 @@ take-room-requires-2 c κs =
       omega (arith, c .before .before .before .before .before .before .before .before .before .before .before .make-room .ensures .home-fits, c .before .before .before .take-room .ensures .elsewhere (a .b) (a .a) (omega (arith, nodes .1, pre .0 .nodes-fit)) (omega (arith, nodes .0, pre .0 .nodes-fit)) (λ e. absurd (nodes .2 e))),
     )
 
--- src/raise.rt:113:1
 same-length : tie.Need-same-length
 same-length c = search needs
 
--- src/raise.rt:113:1
 same-length-2 : tie.Need-same-length-2
 same-length-2 c = search needs
 
--- src/raise.rt:113:1
 same-length-3 : tie.Need-same-length-3
 same-length-3 c = search needs
 
--- src/raise.rt:113:1
 returns : tie.Need-returns
 returns c =
     let pre = c .before .before .before .before .before .before .before .before .before .before .before .before .before .before .before .before .before .before .before .before .before .pre in

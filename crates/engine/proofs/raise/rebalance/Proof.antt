@@ -1,41 +1,30 @@
+-- Where no set is short, settling leaves nothing over and nothing under.
 use Rattle.engine.proofs.Raising.{balanced-again}
-use native.Mathlib.Omega.{arith}
 use borrow.Author.Needs.{needs}
 use Rattle.engine.proofs.raise.rebalance.Statement.{statement}
 use Rattle.engine.proofs.raise.rebalance.Tie as tie
-use Rattle.engine.proofs.raise.rebalance.Reads as reads
-use Rattle.engine.proofs.raise.rebalance.Lts as lts
-use Rattle.engine.proofs.settle.settle.Reads as settle-reads
 
--- src/raise.rt:26:5
 settle-requires : tie.Need-settle-requires
 settle-requires c κs = search needs
 
--- src/raise.rt:15:1
 same-length : tie.Need-same-length
 same-length c = search needs
 
--- src/raise.rt:15:1
 same-length-2 : tie.Need-same-length-2
 same-length-2 c = search needs
 
--- src/raise.rt:15:1
 same-length-3 : tie.Need-same-length-3
 same-length-3 c = search needs
 
--- src/raise.rt:15:1
 same-length-4 : tie.Need-same-length-4
 same-length-4 c = search needs
 
--- src/raise.rt:15:1
 same-length-5 : tie.Need-same-length-5
 same-length-5 c = search needs
 
--- src/raise.rt:15:1
 same-length-6 : tie.Need-same-length-6
 same-length-6 c = search needs
 
--- src/raise.rt:15:1
 returns : tie.Need-returns
 returns c =
     let s = c .before .before .before .before .before .before .before .before .before .before .before .before .settle .ensures in

@@ -1,27 +1,20 @@
+-- What is taken off the pair's place shows at that pair alone.
 use Rattle.engine.proofs.Cells.{cell-bound, taken-off}
 use mathlib.Core.Bool.{false}
 use native.Mathlib.Omega.{arith}
 use borrow.Author.Needs.{needs}
 use Rattle.engine.proofs.raise.take_room.Statement.{statement}
 use Rattle.engine.proofs.raise.take_room.Tie as tie
-use Rattle.engine.proofs.raise.take_room.Reads as reads
-use Rattle.engine.proofs.raise.take_room.Lts as lts
-use Rattle.engine.proofs.rooms.place.Reads as place-reads
-use Rattle.engine.proofs.rooms.take.Reads as take-reads
 
--- src/raise.rt:107:9
 place-requires : tie.Need-place-requires
 place-requires c κs = search needs
 
--- src/raise.rt:108:5
 take-requires : tie.Need-take-requires
 take-requires c κs = rw (c .before .place .ensures .0) (omega (arith, cell-bound false (c .before .before .before .args .x) (c .before .before .before .args .y) (c .before .before .before .pre .1) (c .before .before .before .pre .2), c .before .before .before .pre .0), c .before .before .before .pre .3)
 
--- src/raise.rt:103:1
 same-length : tie.Need-same-length
 same-length c = search needs
 
--- src/raise.rt:103:1
 returns : tie.Need-returns
 returns c =
     let a = c .before .before .before .before .before .before .args in

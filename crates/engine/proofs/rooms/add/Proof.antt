@@ -1,37 +1,28 @@
+-- One number is set; the others stay.
 use lib.Seq.{getD-set-same, getD-set-other}
 use mathlib.Core.Path.{sym}
-use native.Mathlib.Omega.{arith}
 use borrow.Author.Needs.{needs}
 use Rattle.engine.proofs.rooms.add.Statement.{statement}
 use Rattle.engine.proofs.rooms.add.Tie as tie
-use Rattle.engine.proofs.rooms.add.Reads as reads
-use Rattle.engine.proofs.rooms.add.Lts as lts
 
--- src/rooms.rt:51:18
 mul-numbers : tie.Need-mul-numbers
 mul-numbers c = search needs
 
--- src/rooms.rt:51:18
 slice-read-numbers : tie.Need-slice-read-numbers
 slice-read-numbers c = search needs
 
--- src/rooms.rt:51:18
 add-numbers : tie.Need-add-numbers
 add-numbers c = search needs
 
--- src/rooms.rt:51:5
 mul-numbers-2 : tie.Need-mul-numbers-2
 mul-numbers-2 c = search needs
 
--- src/rooms.rt:51:5
 slice-write-numbers : tie.Need-slice-write-numbers
 slice-write-numbers c = search needs
 
--- src/rooms.rt:47:1
 same-length : tie.Need-same-length
 same-length c = search needs
 
--- src/rooms.rt:47:1
 returns : tie.Need-returns
 returns c =
     let a = c .before .args in

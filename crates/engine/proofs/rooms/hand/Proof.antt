@@ -1,61 +1,47 @@
+-- Two numbers at two places are set, one after the other; the others stay.
 use mathlib.Core.Path.{sym}
 use lib.Seq.{getD-set-other}
 use Rattle.engine.proofs.Cells.{handed-on-hands}
-use native.Mathlib.Omega.{arith}
 use borrow.Author.Needs.{needs}
 use Rattle.engine.proofs.rooms.hand.Statement.{statement}
 use Rattle.engine.proofs.rooms.hand.Tie as tie
-use Rattle.engine.proofs.rooms.hand.Reads as reads
-use Rattle.engine.proofs.rooms.hand.Lts as lts
 
--- src/rooms.rt:37:21
 mul-numbers : tie.Need-mul-numbers
 mul-numbers c = search needs
 
--- src/rooms.rt:37:21
 slice-read-numbers : tie.Need-slice-read-numbers
 slice-read-numbers c = search needs
 
--- src/rooms.rt:37:21
 sub-numbers : tie.Need-sub-numbers
 sub-numbers c = search needs
 
--- src/rooms.rt:37:5
 mul-numbers-2 : tie.Need-mul-numbers-2
 mul-numbers-2 c = search needs
 
--- src/rooms.rt:37:5
 slice-write-numbers : tie.Need-slice-write-numbers
 slice-write-numbers c = search needs
 
--- src/rooms.rt:38:19
 mul-numbers-3 : tie.Need-mul-numbers-3
 mul-numbers-3 c = search needs
 
--- src/rooms.rt:38:19
 slice-read-numbers-2 : tie.Need-slice-read-numbers-2
 slice-read-numbers-2 c = search needs
 
--- src/rooms.rt:38:19
 add-numbers : tie.Need-add-numbers
 add-numbers c =
     let a = c .before .before .args in
     rw (getD-set-other (a .numbers .now) (a .from) (a .to) _ 0 (λ e. c .before .before .pre .0 .2 (sym e)))
     (record { fits = c .before .before .pre .1 .1 })
 
--- src/rooms.rt:38:5
 mul-numbers-4 : tie.Need-mul-numbers-4
 mul-numbers-4 c = search needs
 
--- src/rooms.rt:38:5
 slice-write-numbers-2 : tie.Need-slice-write-numbers-2
 slice-write-numbers-2 c = search needs
 
--- src/rooms.rt:31:1
 same-length : tie.Need-same-length
 same-length c = search needs
 
--- src/rooms.rt:31:1
 returns : tie.Need-returns
 returns c =
     let a = c .before .before .args in

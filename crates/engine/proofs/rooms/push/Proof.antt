@@ -1,3 +1,4 @@
+-- A pair and the turned pair have two places, and what is handed from the one to the other is a push.
 use mathlib.Core.Path.{_≡_}
 use Rattle.engine.specs.Room.{cell}
 use Rattle.engine.proofs.Cells.{cell-bound, cell-first, handed-pushes}
@@ -5,20 +6,13 @@ use native.Mathlib.Omega.{arith}
 use borrow.Author.Needs.{needs}
 use Rattle.engine.proofs.rooms.push.Statement.{statement}
 use Rattle.engine.proofs.rooms.push.Tie as tie
-use Rattle.engine.proofs.rooms.push.Reads as reads
-use Rattle.engine.proofs.rooms.push.Lts as lts
-use Rattle.engine.proofs.rooms.hand.Reads as hand-reads
-use Rattle.engine.proofs.rooms.place.Reads as place-reads
 
--- src/rooms.rt:49:9
 place-requires : tie.Need-place-requires
 place-requires c κs = search needs
 
--- src/rooms.rt:50:9
 place-requires-2 : tie.Need-place-requires-2
 place-requires-2 c κs = search needs
 
--- src/rooms.rt:51:5
 hand-requires : tie.Need-hand-requires
 hand-requires c κs =
     let a = c .before .before .before .before .args in
@@ -34,11 +28,9 @@ hand-requires c κs =
       (pre .1 .1 .0, pre .1 .1 .1),
     )
 
--- src/rooms.rt:42:1
 same-length : tie.Need-same-length
 same-length c = search needs
 
--- src/rooms.rt:42:1
 returns : tie.Need-returns
 returns c =
     let a = c .before .before .before .before .before .before .before .args in

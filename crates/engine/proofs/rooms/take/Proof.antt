@@ -1,36 +1,28 @@
+-- One number is set; the others stay.
 use lib.Seq.{getD-set-same, getD-set-other}
 use native.Mathlib.Omega.{arith}
 use borrow.Author.Needs.{needs}
 use Rattle.engine.proofs.rooms.take.Statement.{statement}
 use Rattle.engine.proofs.rooms.take.Tie as tie
-use Rattle.engine.proofs.rooms.take.Reads as reads
-use Rattle.engine.proofs.rooms.take.Lts as lts
 
--- src/sweep.rt:19:18
 mul-numbers : tie.Need-mul-numbers
 mul-numbers c = search needs
 
--- src/sweep.rt:19:18
 slice-read-numbers : tie.Need-slice-read-numbers
 slice-read-numbers c = search needs
 
--- src/sweep.rt:19:18
 sub-numbers : tie.Need-sub-numbers
 sub-numbers c = search needs
 
--- src/sweep.rt:19:5
 mul-numbers-2 : tie.Need-mul-numbers-2
 mul-numbers-2 c = search needs
 
--- src/sweep.rt:19:5
 slice-write-numbers : tie.Need-slice-write-numbers
 slice-write-numbers c = search needs
 
--- src/sweep.rt:14:1
 same-length : tie.Need-same-length
 same-length c = search needs
 
--- src/sweep.rt:14:1
 returns : tie.Need-returns
 returns c =
     let a = c .before .args in

@@ -1,3 +1,4 @@
+-- Nothing lacks at the places passed.
 use Rattle.engine.specs.Room.{at}
 use borrow.Author.Count.{below-more}
 use mathlib.Core.Path.{_≡_}
@@ -6,8 +7,6 @@ use borrow.Author.Needs.{needs}
 use native.Mathlib.Omega.{arith}
 use Rattle.engine.proofs.settle.first_lack.Statement.{statement}
 use Rattle.engine.proofs.settle.first_lack.Tie as tie
-use Rattle.engine.proofs.settle.first_lack.Reads as reads
-use Rattle.engine.proofs.settle.first_lack.Lts as lts
 
 abbrev Inv-loop : tie.InvT-loop
 Inv-loop under order count j₀ j = (j ≤ count) × ((i : ℕ) → i < j → at under (at order i) ≡ 0)
@@ -15,43 +14,33 @@ Inv-loop under order count j₀ j = (j ≤ count) × ((i : ℕ) → i < j → at
 abbrev μ-loop : tie.MeasureT-loop
 μ-loop under order count j₀ j = count - j
 
--- src/settle.rt:18:5
 loop-holds : tie.Need-loop-holds Inv-loop μ-loop
 loop-holds c = (omega arith, λ i l. absurd (omega arith))
 
--- src/settle.rt:19:17
 mul-x : tie.Need-mul-x Inv-loop μ-loop
 mul-x c = search needs
 
--- src/settle.rt:19:17
 shared-slice-read-x : tie.Need-shared-slice-read-x Inv-loop μ-loop
 shared-slice-read-x c = search needs
 
--- src/settle.rt:20:16
 mul-if1 : tie.Need-mul-if1 Inv-loop μ-loop
 mul-if1 c = record { fits = omega (arith, c .before .before .before .pre .1 (c .before .before .loop .j) (c .before .loop-test .taken), c .before .before .before .good .0 .1) }
 
--- src/settle.rt:20:16
 shared-slice-read-if1 : tie.Need-shared-slice-read-if1 Inv-loop μ-loop
 shared-slice-read-if1 c = c .before .before .before .before .pre .1 (c .before .before .before .loop .j) (c .before .before .loop-test .taken)
 
--- src/settle.rt:21:13
 returns : tie.Need-returns Inv-loop μ-loop
 returns c = record { within = omega arith; before = c .before .before .before .before .loop .inv .1; there = λ l. c .if1 .taken }
 
--- src/settle.rt:23:9
 add-j : tie.Need-add-j Inv-loop μ-loop
 add-j c = search needs
 
--- src/settle.rt:18:5
 loop-less : tie.Need-loop-less Inv-loop μ-loop
 loop-less c = omega arith
 
--- src/settle.rt:18:5
 loop-again : tie.Need-loop-again Inv-loop μ-loop
 loop-again c = (omega arith, below-more _ _ (c .before .before .before .before .loop .inv .1) (omega (arith, c .if1 .left)))
 
--- src/settle.rt:13:1
 returns-2 : tie.Need-returns-2 Inv-loop μ-loop
 returns-2 c = record { within = c .before .loop .inv .0; before = c .before .loop .inv .1; there = λ l. absurd (omega arith) }
 

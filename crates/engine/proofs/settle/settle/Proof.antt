@@ -1,17 +1,12 @@
+-- Each turn keeps every account and leaves less over; the last search shows that nothing lacks in the reach.
 use Prim.Native.Nat.{_≤_, _<_}
 use Rattle.engine.proofs.Sweeping.{kept-same, kept-on, kept-small, lent-still, desk-still, log-trail, shut-off-trail, none-lacks}
 use Rattle.engine.specs.Room.{at, seen, Kept, SameLengths}
 use Rattle.numbers.specs.Sums.{sum}
 use mathlib.Core.Path.{refl, _∙_}
-use borrow.Author.Needs.{needs}
 use native.Mathlib.Omega.{arith}
 use Rattle.engine.proofs.settle.settle.Statement.{statement}
 use Rattle.engine.proofs.settle.settle.Tie as tie
-use Rattle.engine.proofs.settle.settle.Reads as reads
-use Rattle.engine.proofs.settle.settle.Lts as lts
-use Rattle.engine.proofs.search.search.Reads as search-reads
-use Rattle.engine.proofs.settle.first_lack.Reads as first-lack-reads
-use Rattle.engine.proofs.sweep.sweep.Reads as sweep-reads
 
 abbrev Inv-loop : tie.InvT-loop
 Inv-loop rooms₀ back over₀ under₀ n u v marks₀ order₀ finder₀ rooms over under marks order finder =
@@ -22,7 +17,6 @@ Inv-loop rooms₀ back over₀ under₀ n u v marks₀ order₀ finder₀ rooms 
 abbrev μ-loop : tie.MeasureT-loop
 μ-loop rooms₀ back over₀ under₀ n u v marks₀ order₀ finder₀ rooms over under marks order finder = sum n (at over)
 
--- src/settle.rt:41:5
 loop-holds : tie.Need-loop-holds Inv-loop μ-loop
 loop-holds c = (
   record { first-length = refl; second-length = refl; third-length = refl },
@@ -31,7 +25,6 @@ loop-holds c = (
   λ lu lv. omega arith,
 )
 
--- src/settle.rt:42:13
 search-requires : tie.Need-search-requires Inv-loop μ-loop
 search-requires c κs =
     let pre = c .before .before .before .before .before .before .before .before .before .before .before .before .pre in
@@ -46,38 +39,30 @@ search-requires c κs =
       ),
     )
 
--- src/settle.rt:45:21
 first-lack-requires : tie.Need-first-lack-requires Inv-loop μ-loop
 first-lack-requires c κs =
     let log = c .before .before .before .before .before .before .before .before .search .ensures .log in
     let under = lent-still (c .before .before .before .before .before .before .before .before .before .before .before .before .before .before .loop .inv .0) (c .before .before .before .before .before .before .before .before .before .before .before .before .before .before .before .before .before .before .before .before .before .pre .0) .under-whole in
     (omega (arith, log .count-fits, c .before .before .before .before .before .before .before .before .search .ensures .desk .order-whole), λ j l. omega (arith, under, log .node j l))
 
--- src/settle.rt:46:13
 same-length : tie.Need-same-length Inv-loop μ-loop
 same-length c = c .before .before .before .before .before .before .before .before .before .before .before .before .before .before .before .before .loop .inv .0 .first-length
 
--- src/settle.rt:46:13
 same-length-2 : tie.Need-same-length-2 Inv-loop μ-loop
 same-length-2 c = c .before .before .before .before .before .before .before .before .before .before .before .before .before .before .before .before .loop .inv .0 .second-length
 
--- src/settle.rt:46:13
 same-length-3 : tie.Need-same-length-3 Inv-loop μ-loop
 same-length-3 c = c .before .before .before .before .before .before .before .before .before .before .before .before .before .before .before .before .loop .inv .0 .third-length
 
--- src/settle.rt:46:13
 same-length-4 : tie.Need-same-length-4 Inv-loop μ-loop
 same-length-4 c = c .before .before .before .before .before .before .before .before .before .before .search .kept .1 .1 .1 .1 .1 .1 .0 ∙ c .before .before .before .before .before .before .before .before .before .before .before .before .before .before .before .before .loop .inv .1 .first-length
 
--- src/settle.rt:46:13
 same-length-5 : tie.Need-same-length-5 Inv-loop μ-loop
 same-length-5 c = c .before .before .before .before .before .before .before .before .before .before .search .kept .1 .1 .1 .1 .1 .1 .1 .0 ∙ c .before .before .before .before .before .before .before .before .before .before .before .before .before .before .before .before .loop .inv .1 .second-length
 
--- src/settle.rt:46:13
 same-length-6 : tie.Need-same-length-6 Inv-loop μ-loop
 same-length-6 c = c .before .before .before .before .before .before .before .before .before .before .search .kept .1 .1 .1 .1 .1 .1 .1 .1 .0 ∙ c .before .before .before .before .before .before .before .before .before .before .before .before .before .before .before .before .loop .inv .1 .third-length
 
--- src/settle.rt:46:13
 returns : tie.Need-returns Inv-loop μ-loop
 returns c =
     let s = c .before .before .before .before .before .before .before .before .before .before .search .ensures in
@@ -89,7 +74,6 @@ returns c =
       shut-room = c .before .before .before .before .before .before .before .before .before .before .before .before .before .before .before .before .loop .inv .3;
     }
 
--- src/settle.rt:48:9
 sweep-requires : tie.Need-sweep-requires Inv-loop μ-loop
 sweep-requires c κs =
     let s = c .before .before .before .before .before .before .before .before .before .before .before .before .before .before .before .search .ensures in
@@ -104,11 +88,9 @@ sweep-requires c κs =
       ),
     )
 
--- src/settle.rt:41:5
 loop-less : tie.Need-loop-less Inv-loop μ-loop
 loop-less c = c .before .before .before .before .before .before .sweep .ensures .1 .1
 
--- src/settle.rt:41:5
 loop-again : tie.Need-loop-again Inv-loop μ-loop
 loop-again c =
     let inv = c .before .before .before .before .before .before .before .before .before .before .before .before .before .before .before .before .before .before .before .before .before .before .before .before .before .before .before .before .loop .inv in (

@@ -1,31 +1,21 @@
+-- What is moved is at most the room and at most what lacks.
 use native.Mathlib.Omega.{arith}
 use borrow.Author.Needs.{needs}
 use Rattle.engine.proofs.sweep.move_on.Statement.{statement}
 use Rattle.engine.proofs.sweep.move_on.Tie as tie
-use Rattle.engine.proofs.sweep.move_on.Reads as reads
-use Rattle.engine.proofs.sweep.move_on.Lts as lts
-use Rattle.engine.proofs.rooms.hand.Reads as hand-reads
-use Rattle.engine.proofs.rooms.lesser.Reads as lesser-reads
-use Rattle.engine.proofs.rooms.push.Reads as push-reads
-use Rattle.engine.proofs.rooms.room_of.Reads as room-of-reads
 
--- src/sweep.rt:42:20
 room-of-requires : tie.Need-room-of-requires
 room-of-requires c κs = search needs
 
--- src/sweep.rt:42:48
 mul-lesser : tie.Need-mul-lesser
 mul-lesser c = search needs
 
--- src/sweep.rt:42:48
 slice-read-lesser : tie.Need-slice-read-lesser
 slice-read-lesser c = search needs
 
--- src/sweep.rt:42:9
 lesser-requires : tie.Need-lesser-requires
 lesser-requires c κs = search needs
 
--- src/sweep.rt:43:5
 push-requires : tie.Need-push-requires
 push-requires c κs = (
   c .before .before .before .before .before .before .before .pre .0,
@@ -35,19 +25,15 @@ push-requires c κs = (
   ),
 )
 
--- src/sweep.rt:44:5
 hand-requires : tie.Need-hand-requires
 hand-requires c κs = search needs
 
--- src/sweep.rt:34:1
 same-length : tie.Need-same-length
 same-length c = search needs
 
--- src/sweep.rt:34:1
 same-length-2 : tie.Need-same-length-2
 same-length-2 c = search needs
 
--- src/sweep.rt:34:1
 returns : tie.Need-returns
 returns c =
     record {

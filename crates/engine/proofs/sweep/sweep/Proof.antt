@@ -1,3 +1,4 @@
+-- From the last place to the first: less is over, or something lacks at a place not yet swept.
 use Rattle.engine.proofs.Sweeping.{Sweeping, kept-small, lent-still, sweep-begins, finder-node, finder-other, sweep-on, sweep-ends}
 use Rattle.engine.specs.Room.{at, seen, SameLengths}
 use mathlib.Core.Path.{_≡_, refl, subst, _∙_}
@@ -6,9 +7,6 @@ use borrow.Author.Needs.{needs}
 use native.Mathlib.Omega.{arith}
 use Rattle.engine.proofs.sweep.sweep.Statement.{statement}
 use Rattle.engine.proofs.sweep.sweep.Tie as tie
-use Rattle.engine.proofs.sweep.sweep.Reads as reads
-use Rattle.engine.proofs.sweep.sweep.Lts as lts
-use Rattle.engine.proofs.sweep.turn.Reads as turn-reads
 
 abbrev Inv-loop : tie.InvT-loop
 Inv-loop rooms₀ back over₀ under₀ n order finder starts count j₀ rooms over under j =
@@ -18,7 +16,6 @@ Inv-loop rooms₀ back over₀ under₀ n order finder starts count j₀ rooms o
 abbrev μ-loop : tie.MeasureT-loop
 μ-loop rooms₀ back over₀ under₀ n order finder starts count j₀ rooms over under j = j
 
--- src/sweep.rt:77:5
 loop-holds : tie.Need-loop-holds Inv-loop μ-loop
 loop-holds c = (
   omega arith,
@@ -26,11 +23,9 @@ loop-holds c = (
   sweep-begins (c .before .before .before .before .before .pre .1 .1 .0 .2) (c .before .before .before .before .before .pre .1 .1 .1),
 )
 
--- src/sweep.rt:78:9
 sub-j : tie.Need-sub-j Inv-loop μ-loop
 sub-j c = search needs
 
--- src/sweep.rt:79:9
 turn-requires : tie.Need-turn-requires Inv-loop μ-loop
 turn-requires c κs =
     let pre = c .before .before .before .before .before .before .before .before .before .before .pre in
@@ -46,11 +41,9 @@ turn-requires c κs =
       ),
     )
 
--- src/sweep.rt:77:5
 loop-less : tie.Need-loop-less Inv-loop μ-loop
 loop-less c = omega arith
 
--- src/sweep.rt:77:5
 loop-again : tie.Need-loop-again Inv-loop μ-loop
 loop-again c =
     let inv = c .before .before .before .before .before .before .before .before .before .before .before .loop .inv in
@@ -65,19 +58,15 @@ loop-again c =
       sweep-on (c .before .before .before .before .before .before .before .before .before .before .before .before .before .before .before .before .before .pre .1 .1 .0 .2) (j - 1) (omega arith) (subst (Sweeping _ _ _ _ _ _ _ _ _ _ _) before (inv .2)) (c .before .before .before .before .before .before .turn .ensures),
     )
 
--- src/sweep.rt:65:1
 same-length : tie.Need-same-length Inv-loop μ-loop
 same-length c = c .before .loop .inv .1 .first-length
 
--- src/sweep.rt:65:1
 same-length-2 : tie.Need-same-length-2 Inv-loop μ-loop
 same-length-2 c = c .before .loop .inv .1 .second-length
 
--- src/sweep.rt:65:1
 same-length-3 : tie.Need-same-length-3 Inv-loop μ-loop
 same-length-3 c = c .before .loop .inv .1 .third-length
 
--- src/sweep.rt:65:1
 returns : tie.Need-returns Inv-loop μ-loop
 returns c =
     let inv = c .before .loop .inv in

@@ -1,3 +1,4 @@
+-- At a start what lacks is paid; elsewhere it is moved on to the finder, another node.
 use Rattle.engine.proofs.Sweeping.{two-members}
 use Rattle.engine.proofs.Account.{paid-swept, paid-falls, rooms-pushed, moved-swept}
 use Rattle.engine.specs.Room.{at}
@@ -5,32 +6,22 @@ use native.Mathlib.Omega.{arith}
 use borrow.Author.Needs.{needs}
 use Rattle.engine.proofs.sweep.turn.Statement.{statement}
 use Rattle.engine.proofs.sweep.turn.Tie as tie
-use Rattle.engine.proofs.sweep.turn.Reads as reads
-use Rattle.engine.proofs.sweep.turn.Lts as lts
-use Rattle.engine.proofs.sweep.move_on.Reads as move-on-reads
-use Rattle.engine.proofs.sweep.pay.Reads as pay-reads
 
--- src/sweep.rt:55:13
 mul-y : tie.Need-mul-y
 mul-y c = search needs
 
--- src/sweep.rt:55:13
 shared-slice-read-y : tie.Need-shared-slice-read-y
 shared-slice-read-y c = search needs
 
--- src/sweep.rt:57:9
 pay-requires : tie.Need-pay-requires
 pay-requires c κs = search needs
 
--- src/sweep.rt:59:17
 mul-x : tie.Need-mul-x
 mul-x c = search needs
 
--- src/sweep.rt:59:17
 shared-slice-read-x : tie.Need-shared-slice-read-x
 shared-slice-read-x c = search needs
 
--- src/sweep.rt:60:9
 move-on-requires : tie.Need-move-on-requires
 move-on-requires c κs =
     let pre = c .before .before .before .before .before .before .before .before .before .before .pre in
@@ -49,15 +40,12 @@ move-on-requires c κs =
       ),
     )
 
--- src/sweep.rt:45:1
 same-length : tie.Need-same-length
 same-length c = search needs
 
--- src/sweep.rt:45:1
 same-length-2 : tie.Need-same-length-2
 same-length-2 c = search needs
 
--- src/sweep.rt:45:1
 returns : tie.Need-returns
 returns c =
     let pre = c .before .before .before .before .before .before .before .before .before .before .before .before .before .before .pre in
@@ -68,15 +56,12 @@ returns c =
       moves = λ s room lack. absurd (omega (arith, c .before .before .before .before .before .before .before .if1 .taken));
     }
 
--- src/sweep.rt:45:1
 same-length-3 : tie.Need-same-length-3
 same-length-3 c = search needs
 
--- src/sweep.rt:45:1
 same-length-4 : tie.Need-same-length-4
 same-length-4 c = search needs
 
--- src/sweep.rt:45:1
 returns-2 : tie.Need-returns-2
 returns-2 c =
     let pre = c .before .before .before .before .before .before .before .before .before .before .before .before .before .before .before .pre in

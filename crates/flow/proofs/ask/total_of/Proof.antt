@@ -1,3 +1,4 @@
+-- The total is the sum so far, and at most 2^32 for each number passed.
 use lib.IntN.{pos}
 use mir.ValLaws.{toZ-pos}
 use mir.Syntax.{w64}
@@ -10,8 +11,6 @@ use borrow.Author.Needs.{needs}
 use native.Mathlib.Omega.{arith}
 use Rattle.flow.proofs.ask.total_of.Statement.{statement}
 use Rattle.flow.proofs.ask.total_of.Tie as tie
-use Rattle.flow.proofs.ask.total_of.Reads as reads
-use Rattle.flow.proofs.ask.total_of.Lts as lts
 
 abbrev Inv-loop : tie.InvT-loop
 Inv-loop numbers n total₀ v₀ total v = (v ≤ n) × (total ≡ sum v (at numbers)) × (total ≤ v * 4294967296)
@@ -19,35 +18,27 @@ Inv-loop numbers n total₀ v₀ total v = (v ≤ n) × (total ≡ sum v (at num
 abbrev μ-loop : tie.MeasureT-loop
 μ-loop numbers n total₀ v₀ total v = n - v
 
--- src/ask.rt:24:5
 loop-holds : tie.Need-loop-holds Inv-loop μ-loop
 loop-holds c = (omega arith, refl, omega arith)
 
--- src/ask.rt:25:18
 mul-total : tie.Need-mul-total Inv-loop μ-loop
 mul-total c = search needs
 
--- src/ask.rt:25:18
 shared-slice-read-total : tie.Need-shared-slice-read-total Inv-loop μ-loop
 shared-slice-read-total c = search needs
 
--- src/ask.rt:25:18
 cast-total : tie.Need-cast-total Inv-loop μ-loop
 cast-total c = record { fits = omega (arith, c .shared-slice-known .given (c .before .before .loop .v)) }
 
--- src/ask.rt:25:9
 add-total : tie.Need-add-total Inv-loop μ-loop
 add-total c = record { fits = omega (arith, c .shared-slice-known .given (c .before .before .loop .v), c .before .before .loop .inv .2, c .before .before .before .pre .0) }
 
--- src/ask.rt:26:9
 add-v : tie.Need-add-v Inv-loop μ-loop
 add-v c = search needs
 
--- src/ask.rt:24:5
 loop-less : tie.Need-loop-less Inv-loop μ-loop
 loop-less c = omega arith
 
--- src/ask.rt:24:5
 loop-again : tie.Need-loop-again Inv-loop μ-loop
 loop-again c =
     rw add-one (
@@ -56,11 +47,9 @@ loop-again c =
       omega (arith, c .before .before .loop .inv .2, c .shared-slice-known .given (c .before .before .loop .v)),
     )
 
--- src/ask.rt:28:5
 cast-result : tie.Need-cast-result Inv-loop μ-loop
 cast-result c = search needs
 
--- src/ask.rt:18:1
 returns : tie.Need-returns Inv-loop μ-loop
 returns c =
     let small : c .before .loop .total < 2 ^ 63 = omega (arith, c .before .loop .inv .2, c .before .before .pre .0) in

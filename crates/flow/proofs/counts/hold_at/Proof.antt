@@ -1,28 +1,20 @@
+-- The arc's share is taken out; the plan with the arc held has a flow, so no set is short and all is balanced again.
 use Rattle.flow.proofs.OneArc.{again-ready, standing-small, standing-balanced, standing-from, standing-to, standing-least, standing-most, standing-shares, standing-held, standing-held-small, standing-held-covered, standing-held-loop}
 use Rattle.engine.proofs.Sweeping.{lent-still}
 use mathlib.Core.Path.{_≡_, sym}
-use native.Mathlib.Omega.{arith}
 use borrow.Author.Needs.{needs}
 use Rattle.flow.proofs.counts.hold_at.Statement.{statement}
 use Rattle.flow.proofs.counts.hold_at.Tie as tie
-use Rattle.flow.proofs.counts.hold_at.Reads as reads
-use Rattle.flow.proofs.counts.hold_at.Lts as lts
-use Rattle.engine.proofs.raise.hold.Reads as hold-reads
-use Rattle.engine.proofs.raise.rebalance.Reads as rebalance-reads
 
--- src/counts.rt:43:9
 returns : tie.Need-returns
 returns c = λ p k st possible. standing-held-loop st possible (sym (c .if1 .taken))
 
--- src/counts.rt:45:39
 sub-hold : tie.Need-sub-hold
 sub-hold c = standing-most (c .before .before .before .before .before .before .before .before .before .before .pre .1 .1 .1 .1 .0) (c .before .before .before .before .before .before .before .before .before .before .pre .1 .1 .1 .1 .1)
 
--- src/counts.rt:45:53
 sub-hold-2 : tie.Need-sub-hold-2
 sub-hold-2 c = standing-least (c .before .before .before .before .before .before .before .before .before .before .pre .1 .1 .1 .1 .0) (c .before .before .before .before .before .before .before .before .before .before .pre .1 .1 .1 .1 .1)
 
--- src/counts.rt:45:5
 hold-requires : tie.Need-hold-requires
 hold-requires c κs =
     let pre = c .before .before .before .before .before .before .before .before .before .before .pre in
@@ -31,7 +23,6 @@ hold-requires c κs =
     let ne : c .before .before .before .before .before .before .before .before .before .before .args .b ≡ c .before .before .before .before .before .before .before .before .before .before .args .a → ⊥ = λ e. c .before .before .before .if1 .left (sym e) in
     (pre .0, (standing-small st, (standing-balanced st, ((standing-from st, standing-to st, ne), standing-shares st possible ne))))
 
--- src/counts.rt:46:5
 rebalance-requires : tie.Need-rebalance-requires
 rebalance-requires c κs =
     let pre = c .before .before .before .before .before .before .before .before .before .before .before .before .before .before .before .before .before .before .before .before .before .before .before .pre in
@@ -43,31 +34,24 @@ rebalance-requires c κs =
       (rw (st .nodes-are) at (standing-held-small st possible ne h), (pre .1 .0, standing-held-covered st possible ne h)),
     )
 
--- src/counts.rt:33:1
 same-length : tie.Need-same-length
 same-length c = search needs
 
--- src/counts.rt:33:1
 same-length-2 : tie.Need-same-length-2
 same-length-2 c = search needs
 
--- src/counts.rt:33:1
 same-length-3 : tie.Need-same-length-3
 same-length-3 c = search needs
 
--- src/counts.rt:33:1
 same-length-4 : tie.Need-same-length-4
 same-length-4 c = search needs
 
--- src/counts.rt:33:1
 same-length-5 : tie.Need-same-length-5
 same-length-5 c = search needs
 
--- src/counts.rt:33:1
 same-length-6 : tie.Need-same-length-6
 same-length-6 c = search needs
 
--- src/counts.rt:33:1
 returns-2 : tie.Need-returns-2
 returns-2 c =
     λ p k st possible.

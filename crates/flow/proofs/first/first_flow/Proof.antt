@@ -1,3 +1,4 @@
+-- The arcs before i are held at the counts written so far, and the plan with them held stands ready.
 use Rattle.flow.proofs.Firsts.{FirstSoFar, first-begins, first-well-formed, first-goes-on, first-ends}
 use Rattle.plan.specs.Plan.{plan-of}
 use Rattle.plan.specs.Limits.{arc-entries}
@@ -11,9 +12,6 @@ use borrow.Author.Needs.{needs}
 use native.Mathlib.Omega.{arith}
 use Rattle.flow.proofs.first.first_flow.Statement.{statement}
 use Rattle.flow.proofs.first.first_flow.Tie as tie
-use Rattle.flow.proofs.first.first_flow.Reads as reads
-use Rattle.flow.proofs.first.first_flow.Lts as lts
-use Rattle.flow.proofs.first.fix.Reads as fix-reads
 
 abbrev Inv-loop : tie.InvT-loop
 Inv-loop arcs supplies counts₀ rooms₀ over₀ under₀ marks₀ order₀ finder₀ count i₀ counts rooms over under marks order finder i =
@@ -24,7 +22,6 @@ Inv-loop arcs supplies counts₀ rooms₀ over₀ under₀ marks₀ order₀ fin
 abbrev μ-loop : tie.MeasureT-loop
 μ-loop arcs supplies counts₀ rooms₀ over₀ under₀ marks₀ order₀ finder₀ count i₀ counts rooms over under marks order finder i = length arcs / arc-entries - i
 
--- src/first.rt:53:5
 loop-holds : tie.Need-loop-holds Inv-loop μ-loop
 loop-holds c = (
   omega arith,
@@ -34,7 +31,6 @@ loop-holds c = (
   first-begins (c .before .before .before .before .before .before .before .before .pre .1 .1 .1 .1),
 )
 
--- src/first.rt:54:21
 fix-requires : tie.Need-fix-requires Inv-loop μ-loop
 fix-requires c κs =
     let pre = c .before .before .before .before .before .before .before .before .before .before .before .before .before .before .before .before .pre in
@@ -49,23 +45,18 @@ fix-requires c κs =
       ),
     )
 
--- src/first.rt:54:9
 mul-counts : tie.Need-mul-counts Inv-loop μ-loop
 mul-counts c = search needs
 
--- src/first.rt:54:9
 slice-write-counts : tie.Need-slice-write-counts Inv-loop μ-loop
 slice-write-counts c = omega (arith, c .before .before .before .before .before .before .before .before .before .before .before .before .before .before .before .before .before .before .before .before .loop .inv .1, c .before .before .before .before .before .before .before .before .before .before .before .before .before .before .before .before .before .before .before .before .before .before .before .before .before .before .before .before .before .pre .1 .1 .1 .0)
 
--- src/first.rt:55:9
 add-i : tie.Need-add-i Inv-loop μ-loop
 add-i c = search needs
 
--- src/first.rt:53:5
 loop-less : tie.Need-loop-less Inv-loop μ-loop
 loop-less c = omega arith
 
--- src/first.rt:53:5
 loop-again : tie.Need-loop-again Inv-loop μ-loop
 loop-again c =
     let pre = c .before .before .before .before .before .before .before .before .before .before .before .before .before .before .before .before .before .before .before .before .before .before .before .before .before .before .before .before .before .pre in
@@ -78,35 +69,27 @@ loop-again c =
       first-goes-on (pre .0) (inv .0) (inv .4) (c .before .before .before .before .before .before .before .before .before .before .before .before .fix .result) (omega (arith, inv .1, pre .1 .1 .1 .0)) (found .0) (found .1),
     )
 
--- src/first.rt:39:1
 same-length : tie.Need-same-length Inv-loop μ-loop
 same-length c = c .before .loop .inv .1
 
--- src/first.rt:39:1
 same-length-2 : tie.Need-same-length-2 Inv-loop μ-loop
 same-length-2 c = c .before .loop .inv .2 .first-length
 
--- src/first.rt:39:1
 same-length-3 : tie.Need-same-length-3 Inv-loop μ-loop
 same-length-3 c = c .before .loop .inv .2 .second-length
 
--- src/first.rt:39:1
 same-length-4 : tie.Need-same-length-4 Inv-loop μ-loop
 same-length-4 c = c .before .loop .inv .2 .third-length
 
--- src/first.rt:39:1
 same-length-5 : tie.Need-same-length-5 Inv-loop μ-loop
 same-length-5 c = c .before .loop .inv .3 .first-length
 
--- src/first.rt:39:1
 same-length-6 : tie.Need-same-length-6 Inv-loop μ-loop
 same-length-6 c = c .before .loop .inv .3 .second-length
 
--- src/first.rt:39:1
 same-length-7 : tie.Need-same-length-7 Inv-loop μ-loop
 same-length-7 c = c .before .loop .inv .3 .third-length
 
--- src/first.rt:39:1
 returns : tie.Need-returns Inv-loop μ-loop
 returns c =
     let inv = c .before .loop .inv in

@@ -1,30 +1,21 @@
+-- The arc's smallest count is found in the plan with the arcs before it held, and the arc is held there too.
 use Rattle.flow.proofs.Firsts.{fixed-standing, smallest-possible}
 use Rattle.plan.proofs.First.{fixed}
 use Rattle.plan.specs.Plan.{plan-of}
 use Rattle.engine.proofs.Sweeping.{lent-still, desk-still}
-use native.Mathlib.Omega.{arith}
 use borrow.Author.Needs.{needs}
 use Rattle.flow.proofs.first.fix.Statement.{statement}
 use Rattle.flow.proofs.first.fix.Tie as tie
-use Rattle.flow.proofs.first.fix.Reads as reads
-use Rattle.flow.proofs.first.fix.Lts as lts
-use Rattle.flow.proofs.build.arc_at.Reads as arc-at-reads
-use Rattle.flow.proofs.counts.hold_at.Reads as hold-at-reads
-use Rattle.flow.proofs.counts.smallest.Reads as smallest-reads
 
--- src/first.rt:29:9
 arc-at-requires : tie.Need-arc-at-requires
 arc-at-requires c κs = c .before .before .before .before .before .before .before .pre .1 .1 .0
 
--- src/first.rt:31:16
 cast-from : tie.Need-cast-from
 cast-from c = search needs
 
--- src/first.rt:32:14
 cast-to : tie.Need-cast-to
 cast-to c = search needs
 
--- src/first.rt:33:9
 smallest-requires : tie.Need-smallest-requires
 smallest-requires c κs =
     let pre = c .before .before .before .before .before .before .before .before .before .before .before .before .before .before .before .before .pre in
@@ -42,7 +33,6 @@ smallest-requires c κs =
       ),
     )
 
--- src/first.rt:34:5
 hold-at-requires : tie.Need-hold-at-requires
 hold-at-requires c κs =
     let pre = c .before .before .before .before .before .before .before .before .before .before .before .before .before .before .before .before .before .before .before .before .before .before .before .before .before .before .before .before .before .before .before .before .before .before .before .pre in
@@ -67,31 +57,24 @@ hold-at-requires c κs =
       ),
     )
 
--- src/first.rt:19:1
 same-length : tie.Need-same-length
 same-length c = search needs
 
--- src/first.rt:19:1
 same-length-2 : tie.Need-same-length-2
 same-length-2 c = search needs
 
--- src/first.rt:19:1
 same-length-3 : tie.Need-same-length-3
 same-length-3 c = search needs
 
--- src/first.rt:19:1
 same-length-4 : tie.Need-same-length-4
 same-length-4 c = search needs
 
--- src/first.rt:19:1
 same-length-5 : tie.Need-same-length-5
 same-length-5 c = search needs
 
--- src/first.rt:19:1
 same-length-6 : tie.Need-same-length-6
 same-length-6 c = search needs
 
--- src/first.rt:19:1
 returns : tie.Need-returns
 returns c =
     λ f w y.

@@ -1,36 +1,25 @@
+-- The check's verdict is the definition's, and what is worked out of an accepted plan is what it is told.
 use Rattle.flow.proofs.Accepting.{checked-verdict, checked-well-formed, arc-buffer-fits, node-buffer-fits}
 use Rattle.plan.specs.Plan.{plan-of}
 use mir.Facts.{toZ-ofZ}
 use mir.Syntax.{w64}
 use mathlib.Core.Path.{refl}
-use native.Mathlib.Omega.{arith}
 use borrow.Author.Needs.{needs}
 use Rattle.flow.proofs.question.question.Statement.{statement}
 use Rattle.flow.proofs.question.question.Tie as tie
-use Rattle.flow.proofs.question.question.Reads as reads
-use Rattle.flow.proofs.question.question.Lts as lts
-use Rattle.flow.proofs.question.too_short.Reads as too-short-reads
-use Rattle.flow.proofs.question.work_out.Reads as work-out-reads
-use Rattle.plan.proofs.Plan.of.Reads as of-reads
-use Rattle.plan.proofs.network.check.Reads as check-reads
 
--- src/question.rt:79:9
 of-requires : tie.Need-of-requires
 of-requires c κs = search needs
 
--- src/question.rt:80:9
 too-short-requires : tie.Need-too-short-requires
 too-short-requires c κs = search needs
 
--- src/question.rt:81:9
 check-requires : tie.Need-check-requires
 check-requires c κs = search needs
 
--- src/question.rt:82:29
 enum-known-verdict : tie.Need-enum-known-verdict
 enum-known-verdict c = search needs
 
--- src/question.rt:83:9
 returns : tie.Need-returns
 returns c =
     record {
@@ -42,29 +31,23 @@ returns c =
 enum-told : tie.Need-enum-told
 enum-told c = search needs
 
--- src/question.rt:85:31
 work-out-requires : tie.Need-work-out-requires
 work-out-requires c κs =
     let accepted = c .before .before .enum-told .given .1 in
     (checked-well-formed (plan-of (c .before .before .before .before .before .before .before .before .before .before .args .arcs .now) (c .before .before .before .before .before .before .before .before .before .before .args .supplies .now)) (c .before .before .before .before .before .before .before .before .before .before .args .arc-buffer .now) (c .before .before .before .before .before .before .before .before .before .before .args .node-buffer .now) (c .before .before .before .before .before .before .of .ensures .1) (c .before .before .before .before .before .before .of .ensures .0) (c .before .before .before .before .before .too-short .ensures) (c .before .before .before .before .check .ensures) accepted, (arc-buffer-fits (plan-of (c .before .before .before .before .before .before .before .before .before .before .args .arcs .now) (c .before .before .before .before .before .before .before .before .before .before .args .supplies .now)) (c .before .before .before .before .before .before .before .before .before .before .args .arc-buffer .now) (c .before .before .before .before .before .before .before .before .before .before .args .node-buffer .now) (c .before .before .before .before .before .before .of .ensures .1) (c .before .before .before .before .before .before .of .ensures .0) (c .before .before .before .before .before .too-short .ensures) (c .before .before .before .before .check .ensures) accepted, node-buffer-fits (plan-of (c .before .before .before .before .before .before .before .before .before .before .args .arcs .now) (c .before .before .before .before .before .before .before .before .before .before .args .supplies .now)) (c .before .before .before .before .before .before .before .before .before .before .args .arc-buffer .now) (c .before .before .before .before .before .before .before .before .before .before .args .node-buffer .now) (c .before .before .before .before .before .before .of .ensures .1) (c .before .before .before .before .before .before .of .ensures .0) (c .before .before .before .before .before .too-short .ensures) (c .before .before .before .before .check .ensures) accepted))
 
--- src/question.rt:85:22
 enum-known-value : tie.Need-enum-known-value
 enum-known-value c = search needs
 
--- src/question.rt:86:9
 enum-told-2 : tie.Need-enum-told-2
 enum-told-2 c = search needs
 
--- src/question.rt:86:9
 same-length : tie.Need-same-length
 same-length c = search needs
 
--- src/question.rt:86:9
 same-length-2 : tie.Need-same-length-2
 same-length-2 c = search needs
 
--- src/question.rt:86:9
 returns-2 : tie.Need-returns-2
 returns-2 c =
     record {
@@ -73,15 +56,12 @@ returns-2 c =
       nodes-length = c .before .before .before .before .before .before .work-out .kept .1 .1 .1 .0;
     }
 
--- src/question.rt:76:1
 same-length-3 : tie.Need-same-length-3
 same-length-3 c = search needs
 
--- src/question.rt:76:1
 same-length-4 : tie.Need-same-length-4
 same-length-4 c = search needs
 
--- src/question.rt:76:1
 returns-3 : tie.Need-returns-3
 returns-3 c =
     rw (toZ-ofZ {w = w64} {z = c .before .value .given .0 .0} (record { sfits = c .known-told2 .given .0 .1 })) (record {

@@ -1,3 +1,4 @@
+-- Balanced, the first flow is written; otherwise the marks of the shortage set and of what it cites.
 use mir.Facts.{toZ-ofZ}
 use mir.Syntax.{w64}
 use Rattle.flow.proofs.Asking.{marked-lacking}
@@ -6,26 +7,16 @@ use native.Mathlib.Omega.{arith}
 use borrow.Author.Needs.{needs}
 use Rattle.flow.proofs.question.work_out_on.Statement.{statement}
 use Rattle.flow.proofs.question.work_out_on.Tie as tie
-use Rattle.flow.proofs.question.work_out_on.Reads as reads
-use Rattle.flow.proofs.question.work_out_on.Lts as lts
-use Rattle.flow.proofs.ask.ask.Reads as ask-reads
-use Rattle.flow.proofs.first.first_flow.Reads as first-flow-reads
-use Rattle.flow.proofs.marks.mark_arcs.Reads as mark-arcs-reads
-use Rattle.flow.proofs.marks.mark_nodes.Reads as mark-nodes-reads
 
--- src/question.rt:32:9
 ask-requires : tie.Need-ask-requires
 ask-requires c κs = search needs
 
--- src/question.rt:33:22
 enum-known-asked : tie.Need-enum-known-asked
 enum-known-asked c = search needs
 
--- src/question.rt:34:36
 enum-told : tie.Need-enum-told
 enum-told c = search needs
 
--- src/question.rt:34:9
 first-flow-requires : tie.Need-first-flow-requires
 first-flow-requires c κs =
     let pre = c .before .before .before .before .before .before .before .before .before .before .before .before .before .before .before .before .before .before .before .before .before .before .before .before .before .before .before .before .before .before .before .before .before .before .before .before .before .pre in (
@@ -39,79 +30,60 @@ first-flow-requires c κs =
       ),
     )
 
--- src/question.rt:35:9
 same-length : tie.Need-same-length
 same-length c = search needs
 
--- src/question.rt:35:9
 same-length-2 : tie.Need-same-length-2
 same-length-2 c = search needs
 
--- src/question.rt:35:9
 same-length-3 : tie.Need-same-length-3
 same-length-3 c = search needs
 
--- src/question.rt:35:9
 same-length-4 : tie.Need-same-length-4
 same-length-4 c = search needs
 
--- src/question.rt:35:9
 same-length-5 : tie.Need-same-length-5
 same-length-5 c = search needs
 
--- src/question.rt:35:9
 same-length-6 : tie.Need-same-length-6
 same-length-6 c = search needs
 
--- src/question.rt:35:9
 same-length-7 : tie.Need-same-length-7
 same-length-7 c = search needs
 
--- src/question.rt:35:9
 returns : tie.Need-returns
 returns c = search needs
 
--- src/question.rt:37:5
 mark-nodes-requires : tie.Need-mark-nodes-requires
 mark-nodes-requires c κs = (omega (arith, c .before .before .before .before .before .before .before .before .before .before .before .before .before .before .before .before .before .ask .kept .1 .1 .1 .1 .1 .0, c .before .before .before .before .before .before .before .before .before .before .before .before .before .before .before .before .before .before .before .before .before .before .before .before .before .before .before .before .before .before .before .before .before .pre .1 .1 .1 .1 .marks-whole), c .before .before .before .before .before .before .before .before .before .before .before .before .before .before .before .before .before .before .before .before .before .before .before .before .before .before .before .before .before .before .before .before .before .pre .1 .0 .1)
 
--- src/question.rt:38:5
 mark-arcs-requires : tie.Need-mark-arcs-requires
 mark-arcs-requires c κs = (c .before .before .before .before .before .before .before .before .before .before .before .before .before .before .before .before .before .before .before .before .before .before .before .before .before .before .before .before .before .before .before .before .before .before .before .before .before .before .pre .0, (omega (arith, c .before .before .before .before .before .before .before .before .before .before .before .before .before .before .before .before .before .before .before .before .before .before .ask .kept .1 .1 .1 .1 .1 .0, c .before .before .before .before .before .before .before .before .before .before .before .before .before .before .before .before .before .before .before .before .before .before .before .before .before .before .before .before .before .before .before .before .before .before .before .before .before .before .pre .1 .1 .1 .1 .marks-whole), c .before .before .before .before .before .before .before .before .before .before .before .before .before .before .before .before .before .before .before .before .before .before .before .before .before .before .before .before .before .before .before .before .before .before .before .before .before .before .pre .1 .0 .0))
 
--- src/question.rt:21:1
 same-length-8 : tie.Need-same-length-8
 same-length-8 c = search needs
 
--- src/question.rt:21:1
 same-length-9 : tie.Need-same-length-9
 same-length-9 c = search needs
 
--- src/question.rt:21:1
 same-length-10 : tie.Need-same-length-10
 same-length-10 c = search needs
 
--- src/question.rt:21:1
 same-length-11 : tie.Need-same-length-11
 same-length-11 c = search needs
 
--- src/question.rt:21:1
 same-length-12 : tie.Need-same-length-12
 same-length-12 c = search needs
 
--- src/question.rt:21:1
 same-length-13 : tie.Need-same-length-13
 same-length-13 c = search needs
 
--- src/question.rt:21:1
 same-length-14 : tie.Need-same-length-14
 same-length-14 c = search needs
 
--- src/question.rt:21:1
 same-length-15 : tie.Need-same-length-15
 same-length-15 c = search needs
 
--- src/question.rt:21:1
 returns-2 : tie.Need-returns-2
 returns-2 c =
     rw (toZ-ofZ {w = w64} {z = c .before .before .before .before .before .before .before .before .before .before .before .asked .given .0 .0} (record { sfits = c .before .before .before .before .before .before .before .before .before .before .known-told .given .0 .1 }))

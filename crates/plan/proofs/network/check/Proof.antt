@@ -1,3 +1,4 @@
+-- The rules 1 to 3 come first; where they pass, the verdict is that of 4 to 7.
 use mathlib.Core.Path.{sym, _∙_}
 use Rattle.plan.specs.Plan.{plan-of}
 use Rattle.plan.proofs.Wrong.{no-node, too-many-nodes, too-many-arcs, too-short, counts-pass}
@@ -5,10 +6,6 @@ use native.Mathlib.Omega.{arith}
 use borrow.Author.Needs.{needs}
 use Rattle.plan.proofs.network.check.Statement.{statement}
 use Rattle.plan.proofs.network.check.Tie as tie
-use Rattle.plan.proofs.network.check.Reads as reads
-use Rattle.plan.proofs.network.check.Lts as lts
-use Rattle.plan.proofs.Plan.of.Reads as of-reads
-use Rattle.plan.proofs.network.check_limits.Reads as check-limits-reads
 
 of-requires : tie.Need-of-requires
 of-requires c κs = search needs

@@ -1,3 +1,4 @@
+-- Each rule that concerns no place gives way to the next.
 use mathlib.Core.Path.{_≡_, sym, ap, _∙_}
 use lib.IntN.{ℤ, pos}
 use mir.Syntax.{w64}
@@ -9,12 +10,6 @@ use native.Mathlib.Omega.{arith}
 use borrow.Author.Needs.{needs}
 use Rattle.plan.proofs.network.check_limits.Statement.{statement}
 use Rattle.plan.proofs.network.check_limits.Tie as tie
-use Rattle.plan.proofs.network.check_limits.Reads as reads
-use Rattle.plan.proofs.network.check_limits.Lts as lts
-use Rattle.plan.proofs.network.lowest_wrong_end.Reads as lowest-wrong-end-reads
-use Rattle.plan.proofs.network.lowest_wrong_range.Reads as lowest-wrong-range-reads
-use Rattle.plan.proofs.network.lowest_wrong_supply.Reads as lowest-wrong-supply-reads
-use Rattle.plan.proofs.network.sum_of.Reads as sum-of-reads
 
 lowest-wrong-end-requires : tie.Need-lowest-wrong-end-requires
 lowest-wrong-end-requires c κs = search needs

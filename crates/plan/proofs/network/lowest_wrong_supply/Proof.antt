@@ -1,3 +1,4 @@
+-- No node passed has a wrong supply.
 use Prim.Native.Nat.{ℕ, _-_, _/_, _≤_, _<_}
 use mathlib.Core.Path.{_≡_, sym, _∙_}
 use borrow.Author.Count.{below-more}
@@ -7,9 +8,6 @@ use borrow.Author.Needs.{needs}
 use native.Mathlib.Omega.{arith}
 use Rattle.plan.proofs.network.lowest_wrong_supply.Statement.{statement}
 use Rattle.plan.proofs.network.lowest_wrong_supply.Tie as tie
-use Rattle.plan.proofs.network.lowest_wrong_supply.Reads as reads
-use Rattle.plan.proofs.network.lowest_wrong_supply.Lts as lts
-use Rattle.plan.proofs.network.supply_wrong.Reads as supply-wrong-reads
 use Rattle.plan.specs.Limits.{arc-entries}
 use Rattle.plan.specs.Plan.{plan-of}
 use Rattle.plan.specs.Verdict.{supply-wrong}

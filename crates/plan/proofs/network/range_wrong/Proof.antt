@@ -1,51 +1,39 @@
+-- The two tests, one after the other, are the definition's.
 use Rattle.plan.specs.Plan.{plan-of}
 use Rattle.plan.proofs.Wrong.{range-crossed, range-too-high}
-use native.Mathlib.Omega.{arith}
 use borrow.Author.Needs.{needs}
 use Rattle.plan.proofs.network.range_wrong.Statement.{statement}
 use Rattle.plan.proofs.network.range_wrong.Tie as tie
-use Rattle.plan.proofs.network.range_wrong.Reads as reads
-use Rattle.plan.proofs.network.range_wrong.Lts as lts
 
--- src/network.rt:38:21
 mul-high : tie.Need-mul-high
 mul-high c = search needs
 
--- src/network.rt:38:21
 add-high : tie.Need-add-high
 add-high c = search needs
 
--- src/network.rt:38:16
 mul-high-2 : tie.Need-mul-high-2
 mul-high-2 c = search needs
 
--- src/network.rt:38:16
 shared-slice-read-high : tie.Need-shared-slice-read-high
 shared-slice-read-high c = search needs
 
--- src/network.rt:39:20
 mul-if1 : tie.Need-mul-if1
 mul-if1 c = search needs
 
--- src/network.rt:39:20
 add-if1 : tie.Need-add-if1
 add-if1 c = search needs
 
--- src/network.rt:39:15
 mul-if1-2 : tie.Need-mul-if1-2
 mul-if1-2 c = search needs
 
--- src/network.rt:39:15
 shared-slice-read-if1 : tie.Need-shared-slice-read-if1
 shared-slice-read-if1 c = search needs
 
--- src/network.rt:40:9
 returns : tie.Need-returns
 returns c =
     let a = c .before .before .before .args in
     range-crossed (plan-of (a .arcs .now) (a .supplies .now)) (a .k) (c .if1 .taken)
 
--- src/network.rt:34:1
 returns-2 : tie.Need-returns-2
 returns-2 c =
     let a = c .before .before .before .args in

@@ -1,3 +1,4 @@
+-- The sum so far is the supplies' passed, and at most 1,000,000 in magnitude for each.
 use mir.Syntax.{w32, w64}
 use mir.Val.{toZ, ofZ, SFits}
 use mir.Facts.{toZ-ofZ}
@@ -13,8 +14,6 @@ use borrow.Author.Needs.{needs}
 use native.Mathlib.Omega.{arith}
 use Rattle.plan.proofs.network.sum_of.Statement.{statement}
 use Rattle.plan.proofs.network.sum_of.Tie as tie
-use Rattle.plan.proofs.network.sum_of.Reads as reads
-use Rattle.plan.proofs.network.sum_of.Lts as lts
 
 abbrev Inv-loop : tie.InvT-loop
 Inv-loop supplies sum₀ v₀ sum v =
@@ -23,19 +22,15 @@ Inv-loop supplies sum₀ v₀ sum v =
 abbrev μ-loop : tie.MeasureT-loop
 μ-loop supplies sum₀ v₀ sum v = length supplies - v
 
--- src/network.rt:109:5
 loop-holds : tie.Need-loop-holds Inv-loop μ-loop
 loop-holds c = (omega arith, refl, omega arith)
 
--- src/network.rt:110:16
 mul-sum : tie.Need-mul-sum Inv-loop μ-loop
 mul-sum c = search needs
 
--- src/network.rt:110:16
 shared-slice-copy-out-sum : tie.Need-shared-slice-copy-out-sum Inv-loop μ-loop
 shared-slice-copy-out-sum c = search needs
 
--- src/network.rt:110:16
 -- the supply that a turn adds; it is small, it is what was read, and the sum with it fits
 abbrev supply : tie.After-sum Inv-loop μ-loop → ℤ
 supply c = getD (c .before .before .before .args .supplies .now) (c .before .before .loop .v) (pos 0)
@@ -59,19 +54,15 @@ next c = record { sfits = omega (arith, grows c, c .before .before .before .pre 
 cast-sum : tie.Need-cast-sum Inv-loop μ-loop
 cast-sum c = rw (seen c) (record { sfits = omega (arith, small c, magnitude-range (supply c)) })
 
--- src/network.rt:110:9
 add-sum : tie.Need-add-sum Inv-loop μ-loop
 add-sum c = rw (seen c, cast c) (next c)
 
--- src/network.rt:111:9
 add-v : tie.Need-add-v Inv-loop μ-loop
 add-v c = search needs
 
--- src/network.rt:109:5
 loop-less : tie.Need-loop-less Inv-loop μ-loop
 loop-less c = search needs
 
--- src/network.rt:109:5
 loop-again : tie.Need-loop-again Inv-loop μ-loop
 loop-again c = rw (seen c, cast c, toZ-ofZ {w = w64} {z = toZ w64 (c .before .before .loop .sum) +ℤ supply c} (next c), add-one) (
   omega arith,
@@ -79,7 +70,6 @@ loop-again c = rw (seen c, cast c, toZ-ofZ {w = w64} {z = toZ w64 (c .before .be
   omega (arith, grows c),
 )
 
--- src/network.rt:102:1
 returns : tie.Need-returns Inv-loop μ-loop
 returns c =
     let full : c .before .loop .v ≡ length (c .before .before .args .supplies .now) = omega arith in

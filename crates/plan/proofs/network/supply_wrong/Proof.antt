@@ -1,3 +1,4 @@
+-- A supply is beyond its limits above, or else below.
 use mathlib.Core.Path.{_≡_}
 use mathlib.Core.Bool.{true, false}
 use lib.IntN.{ℤ, pos}
@@ -8,22 +9,16 @@ use mir.Val.{toZ, ofZ}
 use mir.Facts.{toZ-ofZ}
 use Rattle.plan.specs.Limits.{most-supply}
 use Rattle.plan.proofs.Wrong.{supply-above, supply-below}
-use native.Mathlib.Omega.{arith}
 use borrow.Author.Needs.{needs}
 use Rattle.plan.proofs.network.supply_wrong.Statement.{statement}
 use Rattle.plan.proofs.network.supply_wrong.Tie as tie
-use Rattle.plan.proofs.network.supply_wrong.Reads as reads
-use Rattle.plan.proofs.network.supply_wrong.Lts as lts
 
--- src/network.rt:50:18
 mul-supply : tie.Need-mul-supply
 mul-supply c = search needs
 
--- src/network.rt:50:18
 shared-slice-copy-out-supply : tie.Need-shared-slice-copy-out-supply
 shared-slice-copy-out-supply c = search needs
 
--- src/network.rt:52:9
 returns : tie.Need-returns
 returns c =
     let a = c .before .before .args in
@@ -31,11 +26,9 @@ returns c =
     let e : ltZ (pos most-supply) (toZ w32 (ofZ w32 z)) ≡ true = c .if1 .taken in
     supply-above z (rw (toZ-ofZ {w = w32} {z = z} (record { sfits = c .before .supply .given })) at e)
 
--- src/network.rt:54:14
 sub-result : tie.Need-sub-result
 sub-result c = search needs
 
--- src/network.rt:46:1
 returns-2 : tie.Need-returns-2
 returns-2 c =
     let a = c .before .before .args in

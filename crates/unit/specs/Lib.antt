@@ -1,0 +1,2 @@
+-- How an answer crosses to C.
+pub mod Crossing
