@@ -1,5 +1,5 @@
 -- Marks written one after another: nothing yet, then one entry more. And a "no" marks as a low end that leaves out no arc.
-use Prim.Native.Nat.{ℕ, _+_, _<_}
+use Prim.Native.Nat.{ℕ, _+_, _≤_, _<_}
 use mathlib.Core.Path.{_≡_, refl, _∙_}
 use mathlib.Core.Bool.{Bool, true, false, not, _&&_}
 use mathlib.Core.List.{List}
@@ -11,7 +11,15 @@ use lib.Seq.{getD-set-same, getD-set-other}
 use borrow.Author.Tests.{ne-eqb}
 use Rattle.plan.specs.Plan.{Plan, Set}
 use Rattle.plan.specs.Reason.{no-marks, low-marks}
-use Rattle.flow.specs.Written.{Written}
+use Rattle.stand.specs.Written.{Written}
+use lib.Dec.{eqb}
+use lib.IntN.{ℤ}
+use Rattle.engine.specs.Room.{at}
+use Rattle.engine.specs.Reach.{marked}
+use Rattle.numbers.specs.Sums.{only}
+use Rattle.numbers.proofs.Sums.{eqb-cases}
+use Rattle.stand.specs.Ask.{Marked}
+use Rattle.flow.specs.Answer.{Lacking}
 
 -- ---- one entry after another
 
@@ -58,3 +66,19 @@ and-true false = refl
 -- a low end of an arc k leaves out no arc before k
 pub low-marks-before : (p : Plan) (S : Set) (k j : ℕ) → j < k → low-marks p k S j ≡ no-marks p S j
 low-marks-before p S k j l = rw (ne-eqb j k (λ same. omega arith), and-true)
+
+-- the marks of a set, as they are written: 1 inside, 0 not
+plain-mark : (x : ℕ) → x ≤ 1 → x ≡ only (eqb x 1) 1
+plain-mark x l = eqb-cases (λ t. x ≡ only t 1) x 1 (λ e. e) (λ ne. omega arith)
+
+pub marked-lacking : {p : Plan} {value : ℤ} {marks arcs nodes arcs′ nodes′ : List ℕ} → Marked p value marks
+    → Written (at marks) (p .nodes) nodes nodes′ → Written (no-marks p (marked marks)) (p .arcs) arcs arcs′
+    → Lacking p value arcs nodes arcs′ nodes′
+marked-lacking {marks = marks} m inside cited = record {
+  set = marked marks;
+  shortage = m .shortage;
+  value-is = m .value-is;
+  positive = m .positive;
+  node-marks = written-alike (λ v l. plain-mark (at marks v) (m .marks-plain v l)) inside;
+  arc-marks = cited;
+}

@@ -22,7 +22,7 @@ use Rattle.plan.specs.declared.Verdict.the-variants.{Accepted, Refused as Turne
 use Rattle.plan.proofs.Cut.{flow-leaves-no-shortfall}
 use Rattle.plan.proofs.Refusals.{accepted-well-formed}
 use Rattle.plan.proofs.Unique.{first-flow-unique, shortage-unique}
-use Rattle.flow.specs.Written.{Written}
+use Rattle.stand.specs.Written.{Written}
 use Rattle.flow.specs.Answer.{number, lent-short, Flowing, Lacking, FlowAnswers}
 use Rattle.flow.specs.declared.Answer.{Answer}
 use Rattle.flow.specs.declared.Answer.the-variants.{Runs, Short, Refused}

@@ -15,9 +15,9 @@ use Rattle.plan.specs.Flow.{FirstFlow}
 use Rattle.plan.specs.Shortage.{shortfall, Shortage}
 use Rattle.plan.specs.Reason.{no-marks}
 use Rattle.plan.specs.declared.Verdict.the-variants.{Accepted, Refused as TurnedDown}
-use Rattle.flow.specs.Written.{Written}
-use Rattle.flow.specs.declared.Asked.{Asked}
-use Rattle.flow.specs.declared.Asked.the-variants.{Balances, Lacks}
+use Rattle.stand.specs.Written.{Written}
+use Rattle.stand.specs.declared.Asked.{Asked}
+use Rattle.stand.specs.declared.Asked.the-variants.{Balances, Lacks}
 use Rattle.flow.specs.declared.Answer.{Answer}
 use Rattle.flow.specs.declared.Answer.the-variants.{Runs, Short, Refused}
 

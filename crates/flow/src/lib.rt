@@ -1,10 +1,6 @@
 // The flow question: can the shift run, and how; or what is short, where, and by which limits. It uses
-// `plan` for what is meant and `engine` for moving. `question` is the request; the other modules are
-// internal, and their functions have `requires`.
-pub mod ask;
-pub mod build;
-pub mod counts;
-pub mod first;
+// `plan` for what is meant and `stand` for working it out. `question` is the request; `marks` is internal,
+// and its functions have `requires`.
 pub mod marks;
 pub mod question;
 
@@ -14,10 +10,4 @@ pub enum Answer {
     Runs,
     Short(i64),
     Refused(u32, usize),
-}
-
-// Everything balances, so there is a flow; or so much lacks, by the marked set.
-pub enum Asked {
-    Balances,
-    Lacks(i64),
 }

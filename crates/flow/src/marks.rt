@@ -11,7 +11,7 @@ ghost use Rattle.engine.specs.Reach.{marked};
 ghost use Rattle.plan.specs.Limits.{widest-low, widest-high, arc-entries};
 ghost use Rattle.plan.specs.Plan.{WellFormed, plan-of};
 ghost use Rattle.plan.specs.Reason.{no-marks, low-marks, high-marks};
-ghost use Rattle.flow.specs.Written.{Written};
+ghost use Rattle.stand.specs.Written.{Written};
 
 // A node of the caller's arcs is at most 32 bits wide and fits.
 fn wide(x: u32) -> usize

@@ -1,14 +1,14 @@
 // The flow question of document 01, for every input.
 use crate::Answer;
-use crate::Asked;
-use crate::ask::ask;
-use crate::first::first_flow;
 use crate::marks::mark_arcs;
 use crate::marks::mark_nodes;
 use engine::rooms::Rooms;
 use plan::Plan;
 use plan::Verdict;
 use plan::network::check;
+use stand::Asked;
+use stand::ask::ask;
+use stand::first::first_flow;
 ghost use mathlib.Core.Path.{_≡_};
 ghost use mathlib.Core.Bool.{_||_};
 ghost use Prim.Native.Nat.{ℕ, _≤_, _/_};

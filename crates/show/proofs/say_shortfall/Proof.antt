@@ -1,5 +1,5 @@
 -- A number at or above 0 fits without its sign.
-use Rattle.flow.proofs.Building.{positive-has}
+use Rattle.stand.proofs.Building.{positive-has}
 use mir.Facts.{toZ-ofZ}
 use mir.Val.{toZ, ofZ}
 use mir.Syntax.{w64}

@@ -1,7 +1,7 @@
 -- Balanced, the first flow is written; otherwise the marks of the shortage set and of what it cites.
 use mir.Facts.{toZ-ofZ}
 use mir.Syntax.{w64}
-use Rattle.flow.proofs.Asking.{marked-lacking}
+use Rattle.flow.proofs.Marking.{marked-lacking}
 use Rattle.engine.proofs.Sweeping.{lent-still, desk-still}
 use native.Mathlib.Omega.{arith}
 use borrow.Author.Needs.{needs}

@@ -1,0 +1,66 @@
+-- What settling a plan shows. If nothing is over any more, everything balances. Otherwise the reach of what is over holds all of
+-- it and nothing that lacks, and no room leads out of it: it is the shortage set, and what is over is its shortfall.
+use Prim.Native.Nat.{ℕ, _+_, _≤_, _<_}
+use mathlib.Core.Path.{_≡_, refl, sym, _∙_}
+use mathlib.Core.Bool.{Bool, true, false, true≢false}
+use mathlib.Core.List.{List}
+use native.Mathlib.Omega.{arith}
+use lib.IntN.{ℤ, pos}
+use lib.Signed.{_<ℤ_}
+use Rattle.numbers.specs.Sums.{sum}
+use Rattle.numbers.proofs.Parts.{whole}
+use Rattle.numbers.proofs.Sums.{sum-member}
+use Rattle.engine.specs.Room.{crossing, Small}
+use Rattle.engine.specs.Reach.{Holds, Closed, marked}
+use Rattle.engine.specs.Raise.{Balanced}
+use Rattle.engine.specs.Settle as E
+use Rattle.engine.proofs.Sweeping.{kept-small}
+use Rattle.engine.proofs.Raising.{crossing-closed, crossing-member, crossing-all}
+use Rattle.plan.specs.Plan.{Plan, Set, WellFormed}
+use Rattle.plan.specs.Shortage.{shortfall, Inside, Shortage}
+use Rattle.plan.proofs.Certificate.{Ledger, HoldsOver, Settled, settled-shortage, settled-shortfall}
+use Rattle.stand.specs.State.{Represents, Ready}
+use Rattle.stand.specs.Ask.{Marked}
+use Rattle.stand.proofs.Standing.{kept-represents, even-in-all}
+
+module _ {p : Plan} (w : WellFormed p) {room room′ : ℕ → ℕ → ℕ} {over under over′ under′ : ℕ → ℕ} {v : ℕ} {marks : List ℕ}
+    (r : Represents p room over under) (s : E.Settled (p .nodes) room over under room′ over′ under′ (p .nodes) v marks) where
+  after : Represents p room′ over′ under′
+  after = kept-represents r (s .kept)
+
+  ledger : Ledger p (crossing (p .nodes) room′) over′ under′
+  ledger = record { account = after .account }
+
+  settled : Settled p (crossing (p .nodes) room′) over′ under′ (marked marks)
+  settled = record {
+    all-over = record { holds = s .reach .holds .holds };
+    none-under = s .none-under;
+    closed = crossing-closed (p .nodes) room′ (marked marks) v (s .reach .closed);
+  }
+
+  -- a set out of which no room leads is closed
+  shut : (R : Set) → crossing (p .nodes) room′ R ≡ 0 → Closed (p .nodes) room′ (p .nodes) v R
+  shut R none = record { closed = λ x y lx ly rx st. by x y lx ly rx (st .room-there) (R y) refl }
+    where
+      by : (x y : ℕ) → x < p .nodes → y < p .nodes → R x ≡ true → 0 < room′ x y → (t : Bool) → R y ≡ t → R y ≡ true
+      by x y lx ly rx more true e = e
+      by x y lx ly rx more false e = absurd (omega (arith, crossing-member (p .nodes) room′ R x y lx ly rx e))
+
+  pub asked-short : 0 < sum (p .nodes) over′ → Marked p (pos (sum (p .nodes) over′)) marks
+  asked-short more = record {
+    shortage = settled-shortage p ledger (marked marks) settled
+        (λ R holds none. record { inside = s .reach .least R (record { holds = holds .holds }) (shut R none) });
+    value-is = settled-shortfall p ledger (marked marks) settled;
+    positive = omega whole;
+    marks-plain = s .marks-plain;
+  }
+
+  pub asked-ready : Small (p .nodes) room under → sum (p .nodes) over′ ≡ 0 → Ready p room′ over′ under′
+  asked-ready small none = record {
+    represents = after;
+    balanced = record {
+      none-over = λ x l. omega (arith, sum-member (p .nodes) over′ x l);
+      none-under = λ x l. omega (arith, sum-member (p .nodes) under′ x l, even-in-all after w);
+    };
+    small = kept-small (s .kept) small;
+  }

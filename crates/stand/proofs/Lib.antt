@@ -1,0 +1,6 @@
+pub mod Building
+pub mod Standing
+pub mod Holding
+pub mod OneArc
+pub mod Firsts
+pub mod Asking

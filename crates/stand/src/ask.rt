@@ -1,0 +1,58 @@
+// Asks a well-formed plan whether it can run: enters it, and moves what is over to what lacks. Internal.
+use crate::Asked;
+use crate::build::build;
+use engine::settle::settle;
+ghost use mathlib.Core.Path.{_≡_};
+ghost use mathlib.Core.Bool.{false};
+ghost use Prim.Native.Nat.{ℕ, _^_, _≤_, _<_};
+ghost use lib.IntN.{pos};
+ghost use lib.ListN.{length};
+ghost use Rattle.numbers.specs.Sums.{sum};
+ghost use Rattle.engine.specs.Room.{at, seen, Lent};
+ghost use Rattle.engine.specs.Searched.{Desk};
+ghost use Rattle.plan.specs.Limits.{most-nodes};
+ghost use Rattle.plan.specs.Plan.{WellFormed, plan-of};
+ghost use Rattle.stand.specs.Ask.{AskedOf};
+
+// The sum of the first n numbers.
+fn total_of(numbers: &[u32], n: usize) -> i64
+    requires { ⌜ (n ≤ most-nodes) × (n ≤ length (now numbers)) ⌝ }
+    ensures { λ r. ⌜ r ≡ pos (sum n (at (now (numbers .entry)))) ⌝ }
+{
+    let mut total: u64 = 0;
+    let mut v = 0;
+    while v < n {
+        total += numbers[v] as u64;
+        v += 1;
+    }
+    total as i64
+}
+
+// Asks the plan. The rooms, over and under that are lent hold zeros; afterwards they are the plan's, in
+// balance, or the marks hold the shortage set.
+pub fn ask(
+    arcs: &[u32],
+    supplies: &[i32],
+    rooms: &mut [u32],
+    over: &mut [u32],
+    under: &mut [u32],
+    marks: &mut [u8],
+    order: &mut [usize],
+    finder: &mut [usize],
+) -> Asked
+    requires plan { ⌜ WellFormed (plan-of (now arcs) (now supplies)) ⌝ }
+    requires lent { ⌜ Lent (length (now supplies)) (now rooms) (now over) (now under) ⌝ }
+    requires empty { ⌜ ((i : ℕ) → (at (now rooms) i ≡ 0) × (at (now over) i ≡ 0) × (at (now under) i ≡ 0)) ⌝ }
+    requires desk { ⌜ Desk (length (now supplies)) (now marks) (now order) (now finder) ⌝ }
+    ensures { λ r. ⌜ AskedOf (plan-of (now (arcs .entry)) (now (supplies .entry))) (seen (now (rooms .exit)) false) (at (now (over .exit))) (at (now (under .exit))) (now (marks .exit)) r ⌝ }
+{
+    let n = supplies.len();
+    build(arcs, supplies, rooms, over, under);
+    settle(rooms, false, over, under, n, n, n, marks, order, finder);
+    let total = total_of(over, n);
+    if total == 0 {
+        Asked::Balances
+    } else {
+        Asked::Lacks(total)
+    }
+}
