@@ -3,46 +3,19 @@
 -- at most, one of two counts, below and above x, will do; and since a self-loop crosses no set, there any count will.
 use Prim.Native.Nat.{ℕ, suc, _≤_, _<_, min, max}
 use mathlib.Core.Path.{_≡_, refl, sym, _∙_}
-use mathlib.Core.Bool.{Bool, true, false, cond, false≢true, and-not-self, not-and-self}
+use mathlib.Core.Bool.{Bool, true, false, false≢true, and-not-self, not-and-self}
 use native.Mathlib.Omega.{arith}
 use native.Mathlib.Nat.{le-refl}
 use lib.IntN.{pos}
 use lib.Signed.{_≤ℤ_}
-use Rattle.numbers.proofs.Sums.{eqb-cases}
 use Rattle.plan.specs.Plan.{Plan, Set, WellFormed}
 use Rattle.plan.specs.Flow.{Flow, Occurs, Smallest, Largest, Narrowed, held}
 use Rattle.plan.specs.Shortage.{leaves, enters, shortfall}
 use Rattle.plan.specs.Keeping.{RangesWithin}
 use Rattle.plan.proofs.Cut.{crosses-one-way, joined, flow-balance, balance-flow, wider-within, within-keeps, balance-leaves-no-shortfall}
-use Rattle.plan.proofs.Ends.{smallest-least, largest-most, held-inside, held-occurs, held-keeps}
+use Rattle.plan.proofs.Ends.{smallest-least, largest-most, held-occurs, held-keeps}
 use Rattle.plan.proofs.Hoffman.{hoffman}
-
--- a plan with other ranges
-abbrev ranged : Plan → (low high : ℕ → ℕ) → Plan
-ranged p low high = record {
-  nodes = p .nodes;
-  arcs = p .arcs;
-  supply = p .supply;
-  from = p .from;
-  to = p .to;
-  low = low;
-  high = high;
-}
-
--- it is well-formed if they lie within the plan's own and are not crossed
-ranged-well-formed : (p : Plan) → WellFormed p → (low high : ℕ → ℕ) → RangesWithin p (ranged p low high)
-    → ((j : ℕ) → j < p .arcs → low j ≤ high j) → WellFormed (ranged p low high)
-ranged-well-formed p w low high inside uncrossed = record {
-  some-node = w .some-node;
-  nodes-fit = w .nodes-fit;
-  arcs-fit = w .arcs-fit;
-  from-node = w .from-node;
-  to-node = w .to-node;
-  uncrossed = uncrossed;
-  high-fits = λ j l. omega (arith, inside .high-within j l, w .high-fits j l);
-  supply-fits = w .supply-fits;
-  supplies-even = w .supplies-even;
-}
+use Rattle.plan.proofs.Narrowing.{limited, limited-well-formed, held-well-formed}
 
 -- a count that occurs on k and is at most x if k leaves the set, at least x if k enters it
 abbrev Across : Plan → (k x : ℕ) → Set → Type 0
@@ -56,8 +29,7 @@ module _ (p : Plan) (w : WellFormed p) (k : ℕ) (l : k < p .arcs) where
       held-occurs p k l x least most f c
     where
       well-formed : WellFormed (held p k x)
-      well-formed = ranged-well-formed p w (held p k x .low) (held p k x .high) (held-inside p k l x least most)
-          (λ j l′. eqb-cases (λ t. cond t x (p .low j) ≤ cond t x (p .high j)) j k (λ e. le-refl x) (λ ne. w .uncrossed j l′))
+      well-formed = held-well-formed p k l x least most w
 
       none-short : (S : Set) → shortfall (held p k x) S ≤ℤ pos 0
       none-short S =
@@ -103,7 +75,7 @@ flow-one-more p w g h g-flows h-flows k l less = record {
 }
   where
     between : Plan
-    between = ranged p (λ j. min (g j) (h j)) (λ j. max (g j) (h j))
+    between = limited p (λ j. min (g j) (h j)) (λ j. max (g j) (h j))
 
     inside : RangesWithin p between
     inside = record {
@@ -112,7 +84,8 @@ flow-one-more p w g h g-flows h-flows k l less = record {
     }
 
     o : Occurs between k (suc (g k))
-    o = between-occurs between (ranged-well-formed p w (between .low) (between .high) inside (λ j l′. omega arith)) k l
+    o = between-occurs between
+        (limited-well-formed w (λ j l′. omega arith) (λ j l′. omega (arith, inside .high-within j l′, w .high-fits j l′))) k l
         (record { counts = g; flow = balance-flow (omega arith) (flow-balance g-flows); there = refl })
         (record { counts = h; flow = balance-flow (omega arith) (flow-balance h-flows); there = refl })
         (suc (g k)) (omega arith) less

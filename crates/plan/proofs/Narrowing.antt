@@ -3,7 +3,7 @@
 -- greatest number that a set forces, and likewise for the high. What is forced or allowed is read off the shortfalls.
 use Prim.Native.Nat.{ℕ, _+_, _-_, _≤_, _<_}
 use mathlib.Core.Path.{_≡_, refl, ap, sym, _∙_, fun-ext}
-use mathlib.Core.Bool.{Bool, true, false, not, _&&_, cond, false≢true}
+use mathlib.Core.Bool.{Bool, true, false, not, _&&_, cond, false≢true, Bool·not-not}
 use mathlib.Core.Logic.{_⊎_, inr, ⊎-elim}
 use native.Mathlib.Omega.{arith}
 use native.Mathlib.Nat.{le-refl}
@@ -12,7 +12,7 @@ use lib.IntN.{pos, _+ℤ_}
 use lib.Signed.{_≤ℤ_}
 use Rattle.numbers.specs.Sums.{only}
 use Rattle.numbers.proofs.Parts.{plus, minus, whole, add}
-use Rattle.numbers.proofs.Sums.{sum-in-put, put-there, put-cases}
+use Rattle.numbers.proofs.Sums.{sum-in-put, put-cases}
 use Rattle.plan.specs.Limits.{widest-high}
 use Rattle.plan.specs.Plan.{Plan, Set, WellFormed}
 use Rattle.plan.specs.Flow.{Flow, Occurs, Smallest, Largest, held}
@@ -20,7 +20,7 @@ use Rattle.plan.specs.Shortage.{leaves, enters, shortfall, Inside}
 use Rattle.plan.specs.Reason.{Separates, allows, forces, LowReason, HighReason}
 use Rattle.plan.proofs.Cut.{shortfall-parts, flow-leaves-no-shortfall}
 use Rattle.plan.proofs.Ends.{forces-parts, allows-parts, leaves-apart, rest, rest-leaves, rest-enters, rest-supplies}
-use Rattle.plan.proofs.Ends.{flow-has-what-is-forced, flow-keeps-to-what-is-allowed, held-forces, held-allows}
+use Rattle.plan.proofs.Ends.{flow-has-what-is-forced, flow-keeps-to-what-is-allowed, held-occurs, held-forces, held-allows}
 use Rattle.plan.proofs.Hoffman.{hoffman}
 
 module _ (p : Plan) (k : ℕ) (l : k < p .arcs) (S : Set) (s : Separates p k S) where
@@ -106,29 +106,9 @@ module _ (p : Plan) (k : ℕ) (l : k < p .arcs) (x : ℕ) where
         (λ j i. both-at (eqb j k) x (w .uncrossed j i))
         (λ j i. put-cases (λ n. n ≤ widest-high) (p .high) k x j (λ e. omega (arith, w .high-fits k l)) (λ ne. w .high-fits j i))
 
-    -- a flow with k held is a flow with that count on k
-    held-occurs : (f : ℕ → ℕ) → Flow (held p k x) f → Occurs p k x
-    held-occurs f c = record {
-      counts = f;
-      flow = record {
-        within = record {
-          least = λ j i. put-cases (λ n. n ≤ f j → p .low j ≤ f j) (p .low) k x j
-              (λ e h. omega (arith, ap (p .low) e)) (λ ne h. h) (c .within .least j i);
-          most = λ j i. put-cases (λ n. f j ≤ n → f j ≤ p .high j) (p .high) k x j
-              (λ e h. omega (arith, ap (p .high) e)) (λ ne h. h) (c .within .most j i);
-        };
-        balanced = c .balanced;
-      };
-      there = omega (arith, c .within .least k l, c .within .most k l, put-there (p .low) k x, put-there (p .high) k x);
-    }
-
 -- the complement's complement is the set
 rest-rest : (S : Set) → rest (rest S) ≡ S
-rest-rest S = fun-ext (λ v. by (S v))
-  where
-    by : (t : Bool) → not (not t) ≡ t
-    by true = refl
-    by false = refl
+rest-rest S = fun-ext (λ v. Bool·not-not (S v))
 
 module _ (p : Plan) (w : WellFormed p) (g : ℕ → ℕ) (flows : Flow p g) (k : ℕ) (l : k < p .arcs) where
   -- a count of k's range that every set forces at most, and allows at least, occurs
