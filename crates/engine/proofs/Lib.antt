@@ -3,4 +3,3 @@ pub mod Account
 pub mod SearchLog
 pub mod SearchLoop
 pub mod Sweeping
-pub mod Raising

@@ -5,4 +5,3 @@ pub mod Searched
 pub mod Move
 pub mod Sweep
 pub mod Settle
-pub mod Raise

@@ -1,3 +1,4 @@
 pub mod Marking
-pub mod Accepting
 pub mod Unique
+pub mod Demand3
+pub mod Answering

@@ -1,19 +1,17 @@
 -- What the flow question answers, in document 01's words, and what it leaves in the two lent buffers.
 use Prim.Native.Nat.{ℕ, _≤_}
 use mathlib.Core.Path.{_≡_}
-use mathlib.Core.Bool.{Bool, _||_}
 use mathlib.Core.List.{List}
-use lib.Dec.{ltb}
-use lib.IntN.{ℤ, pos}
+use lib.IntN.{ℤ}
 use lib.ListN.{length}
-use lib.Signed.{_<ℤ_}
 use Rattle.numbers.specs.Sums.{only}
 use Rattle.engine.specs.Room.{at}
 use Rattle.plan.specs.Plan.{Plan, Set}
-use Rattle.plan.specs.Verdict.{verdict, network-rules}
+use Rattle.plan.specs.Verdict.{verdict, network-rules, lent-short}
 use Rattle.plan.specs.Flow.{FirstFlow}
-use Rattle.plan.specs.Shortage.{shortfall, Shortage}
+use Rattle.plan.specs.Shortage.{ShortBy}
 use Rattle.plan.specs.Reason.{no-marks}
+use Rattle.plan.specs.declared.Verdict.{Verdict}
 use Rattle.plan.specs.declared.Verdict.the-variants.{Accepted, Refused as TurnedDown}
 use Rattle.stand.specs.Written.{Written}
 use Rattle.stand.specs.declared.Asked.{Asked}
@@ -27,16 +25,19 @@ number Runs = 0
 number (Short value) = 9
 number (Refused n place) = n
 
--- a lent buffer is too short for what the question may write: an entry for each arc, and one for each node
-abbrev pub lent-short : Plan → (arcs nodes : List ℕ) → Bool
-lent-short p arcs nodes = ltb (length arcs) (p .arcs) || ltb (length nodes) (p .nodes)
+-- the answer to a plan that was asked
+abbrev pub answer-to : Asked → Answer
+answer-to Balances = Runs
+answer-to (Lacks value) = Short value
+
+-- what is said of the input: the question may write an entry for each arc, and one for each node
+abbrev pub judged : Plan → (arcs nodes : List ℕ) → Verdict
+judged p arcs nodes = verdict (network-rules p (lent-short arcs (p .arcs) nodes (p .nodes)))
 
 -- a "no": the greatest shortfall, the marks of the shortage set, and the marks of the bounds that its sum cites
 pub record Lacking (p : Plan) (value : ℤ) (arcs nodes arcs′ nodes′ : List ℕ) : Type 0 where
   pub set : Set
-  pub shortage : Shortage p set
-  pub value-is : shortfall p set ≡ value
-  pub positive : pos 0 <ℤ value
+  pub short : ShortBy p value set
   pub node-marks : Written (λ v. only (set v) 1) (p .nodes) nodes nodes′
   pub arc-marks : Written (no-marks p set) (p .arcs) arcs arcs′
 
@@ -53,11 +54,11 @@ Told p arcs nodes arcs′ nodes′ (Lacks value) = Lacking p value arcs nodes ar
 -- what the question answers of a plan, and how it leaves the buffers, for every input
 abbrev pub Says : Plan → (arcs nodes arcs′ nodes′ : List ℕ) → Answer → Type 0
 Says p arcs nodes arcs′ nodes′ Runs =
-    (verdict (network-rules p (lent-short p arcs nodes)) ≡ Accepted) × Told p arcs nodes arcs′ nodes′ Balances
+    (judged p arcs nodes ≡ Accepted) × Told p arcs nodes arcs′ nodes′ Balances
 Says p arcs nodes arcs′ nodes′ (Short value) =
-    (verdict (network-rules p (lent-short p arcs nodes)) ≡ Accepted) × Told p arcs nodes arcs′ nodes′ (Lacks value)
+    (judged p arcs nodes ≡ Accepted) × Told p arcs nodes arcs′ nodes′ (Lacks value)
 Says p arcs nodes arcs′ nodes′ (Refused n place) =
-    (verdict (network-rules p (lent-short p arcs nodes)) ≡ TurnedDown n place) × (arcs′ ≡ arcs) × (nodes′ ≡ nodes)
+    (judged p arcs nodes ≡ TurnedDown n place) × (arcs′ ≡ arcs) × (nodes′ ≡ nodes)
 
 pub record FlowAnswers (p : Plan) (arcs nodes arcs′ nodes′ : List ℕ) (answer : Answer) : Type 0 where
   pub says : Says p arcs nodes arcs′ nodes′ answer

@@ -10,7 +10,7 @@ ghost use Rattle.engine.specs.Room.{at};
 ghost use Rattle.engine.specs.Reach.{marked};
 ghost use Rattle.plan.specs.Limits.{widest-low, widest-high, arc-entries};
 ghost use Rattle.plan.specs.Plan.{WellFormed, plan-of};
-ghost use Rattle.plan.specs.Reason.{no-marks, low-marks, high-marks};
+ghost use Rattle.plan.specs.Reason.{no-marks, end-marks};
 ghost use Rattle.stand.specs.Written.{Written};
 
 // A node of the caller's arcs is at most 32 bits wide and fits.
@@ -58,7 +58,7 @@ fn mark_of(arcs: &[u32], supplies: &[i32], marks: &[u8], k: usize, upper: bool, 
     requires plan { ⌜ WellFormed (plan-of (now arcs) (now supplies)) ⌝ }
     requires whole { ⌜ length (now supplies) ≤ length (now marks) ⌝ }
     requires arc { ⌜ j < length (now arcs) / arc-entries ⌝ }
-    ensures { λ r. ⌜ r ≡ cond upper (high-marks (plan-of (now (arcs .entry)) (now (supplies .entry))) k (marked (now (marks .entry))) j) (low-marks (plan-of (now (arcs .entry)) (now (supplies .entry))) k (marked (now (marks .entry))) j) ⌝ }
+    ensures { λ r. ⌜ r ≡ end-marks (plan-of (now (arcs .entry)) (now (supplies .entry))) k upper (marked (now (marks .entry))) j ⌝ }
 {
     let place = j * Arc::ENTRIES;
     let low = arcs[place + 2];
@@ -97,7 +97,7 @@ pub fn mark_arcs_for(
 )
     requires plan { ⌜ WellFormed (plan-of (now arcs) (now supplies)) ⌝ }
     requires whole { ⌜ (length (now supplies) ≤ length (now marks)) × (length (now arcs) / arc-entries ≤ length (now buffer)) ⌝ }
-    ensures { λ r. ⌜ Written (λ j. cond upper (high-marks (plan-of (now (arcs .entry)) (now (supplies .entry))) k (marked (now (marks .entry))) j) (low-marks (plan-of (now (arcs .entry)) (now (supplies .entry))) k (marked (now (marks .entry))) j)) (length (now (arcs .entry)) / arc-entries) (now (buffer .entry)) (now (buffer .exit)) ⌝ }
+    ensures { λ r. ⌜ Written (end-marks (plan-of (now (arcs .entry)) (now (supplies .entry))) k upper (marked (now (marks .entry)))) (length (now (arcs .entry)) / arc-entries) (now (buffer .entry)) (now (buffer .exit)) ⌝ }
 {
     let count = arcs.len() / Arc::ENTRIES;
     let mut j = 0;

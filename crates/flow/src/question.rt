@@ -3,32 +3,22 @@ use crate::Answer;
 use crate::marks::mark_arcs;
 use crate::marks::mark_nodes;
 use engine::rooms::Rooms;
+use plan::Arc;
 use plan::Plan;
 use plan::Verdict;
 use plan::network::check;
+use plan::network::too_short;
 use stand::Asked;
 use stand::ask::ask;
 use stand::first::first_flow;
 ghost use mathlib.Core.Path.{_≡_};
-ghost use mathlib.Core.Bool.{_||_};
 ghost use Prim.Native.Nat.{ℕ, _≤_, _/_};
-ghost use lib.Dec.{ltb};
 ghost use lib.ListN.{length};
 ghost use Rattle.engine.specs.Room.{at, Lent};
 ghost use Rattle.engine.specs.Searched.{Desk};
 ghost use Rattle.plan.specs.Limits.{arc-entries};
 ghost use Rattle.plan.specs.Plan.{WellFormed, plan-of};
 ghost use Rattle.flow.specs.Answer.{Told, FlowAnswers};
-
-// Whether the one buffer has less than m entries, or the other less than n.
-fn too_short(arc_entries: usize, m: usize, node_entries: usize, n: usize) -> bool
-    ensures { λ r. ⌜ r ≡ (ltb «arc_entries» m || ltb «node_entries» n) ⌝ }
-{
-    if arc_entries < m {
-        return true;
-    }
-    node_entries < n
-}
 
 // Works a well-formed plan out on a desk that is lent: rooms, over and under hold zeros.
 fn work_out_on(
@@ -55,6 +45,8 @@ fn work_out_on(
         first_flow(
             arcs,
             supplies,
+            arcs.len() / Arc::ENTRIES,
+            0,
             arc_buffer,
             rooms,
             over,
@@ -115,8 +107,5 @@ pub fn question(
     if let Verdict::Refused(number, index) = verdict {
         return Answer::Refused(number, index);
     }
-    let Asked::Lacks(value) = work_out(arcs, supplies, arc_buffer, node_buffer) else {
-        return Answer::Runs;
-    };
-    Answer::Short(value)
+    Answer::to(work_out(arcs, supplies, arc_buffer, node_buffer))
 }

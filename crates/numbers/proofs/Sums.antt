@@ -226,26 +226,38 @@ module _ (n : ℕ) (A B : ℕ → Bool) (agree : (i : ℕ) → i < n → A i ≡
   pub sum-inℤ-agree : (f : ℕ → ℤ) → sum-inℤ n A f ≡ sum-inℤ n B f
   sum-inℤ-agree f = sumℤ-same n (λ i. onlyℤ (A i) (f i)) (λ i. onlyℤ (B i) (f i)) (λ i l. rw (agree i l))
 
+-- what counts as a whole counts in each of its parts, and two tests can be made in either order
+only-sum : (m : ℕ) (t : Bool) (g : ℕ → ℕ) → only t (sum m g) ≡ sum m (λ k. only t (g k))
+only-sum m true g = refl
+only-sum m false g = sym (sum-zero m (λ k. 0) (λ k l. refl))
+
+only-swap : (a b : Bool) (x : ℕ) → only a (only b x) ≡ only b (only a x)
+only-swap true b x = refl
+only-swap false true x = refl
+only-swap false false x = refl
+
+-- sums over two sets can be added up in either order
+pub sum-in-swap : (n m : ℕ) (A B : ℕ → Bool) (f : ℕ → ℕ → ℕ)
+    → sum-in n A (λ i. sum-in m B (f i)) ≡ sum-in m B (λ j. sum-in n A (λ i. f i j))
+sum-in-swap n m A B f =
+    sum-same n (λ i. only (A i) (sum-in m B (f i))) (λ i. sum m (λ j. only (A i) (only (B j) (f i j))))
+    (λ i l. only-sum m (A i) (λ j. only (B j) (f i j)))
+    ∙ sum-swap n m (λ i j. only (A i) (only (B j) (f i j)))
+    ∙ sum-same m (λ j. sum n (λ i. only (A i) (only (B j) (f i j)))) (λ j. only (B j) (sum-in n A (λ i. f i j)))
+    (λ j l. sum-same n (λ i. only (A i) (only (B j) (f i j))) (λ i. only (B j) (only (A i) (f i j))) (λ i l′. only-swap (A i) (B j) (f i j))
+    ∙ sym (only-sum n (B j) (λ i. only (A i) (f i j))))
+
 -- a sum over a set of nodes of what the arcs bring to each is one sum over the arcs whose node is in the set
 pub sum-in-gathered : (n m : ℕ) (S : ℕ → Bool) (at f : ℕ → ℕ) → ((k : ℕ) → k < m → at k < n)
     → sum-in n S (λ v. sum-in m (λ k. eqb (at k) v) f) ≡ sum-in m (λ k. S (at k)) f
 sum-in-gathered n m S at f ends =
     sum-same n (λ v. only (S v) (sum-in m (λ k. eqb (at k) v) f)) (λ v. sum m (λ k. only (S v) (only (eqb (at k) v) (f k))))
-    (λ v l. moved (S v) (λ k. only (eqb (at k) v) (f k)))
+    (λ v l. only-sum m (S v) (λ k. only (eqb (at k) v) (f k)))
     ∙ sum-swap n m (λ v k. only (S v) (only (eqb (at k) v) (f k)))
     ∙ sum-same m (λ k. sum n (λ v. only (S v) (only (eqb (at k) v) (f k)))) (λ k. only (S (at k)) (f k)) picked
   where
-    moved : (t : Bool) (g : ℕ → ℕ) → only t (sum m g) ≡ sum m (λ k. only t (g k))
-    moved true g = refl
-    moved false g = sym (sum-zero m (λ k. 0) (λ k l. refl))
-
-    swapped : (a b : Bool) (x : ℕ) → only a (only b x) ≡ only b (only a x)
-    swapped true b x = refl
-    swapped false true x = refl
-    swapped false false x = refl
-
     picked : (k : ℕ) → k < m → sum n (λ v. only (S v) (only (eqb (at k) v) (f k))) ≡ only (S (at k)) (f k)
     picked k l =
         sum-same n (λ v. only (S v) (only (eqb (at k) v) (f k))) (λ v. only (eqb (at k) v) (only (S v) (f k)))
-        (λ v l′. swapped (S v) (eqb (at k) v) (f k))
+        (λ v l′. only-swap (S v) (eqb (at k) v) (f k))
         ∙ sum-picked n (at k) (λ v. only (S v) (f k)) (ends k l)

@@ -46,6 +46,14 @@ module _ (p q : Plan) (same : SameNetwork p q) where
 others-cross-one-way : (p : Plan) (k : ℕ) (S : Set) (j : ℕ) → others k (leaves p S) j ≡ true → enters p S j ≡ true → ⊥
 others-cross-one-way p k S j leaving = crosses-one-way p S j (and-elim-left (leaves p S j) (not (eqb j k)) leaving)
 
+-- what is kept goes by the marks of the plan's arcs alone
+pub keeps-alike : {p q : Plan} {marks marks′ : ℕ → ℕ} → ((j : ℕ) → j < p .arcs → marks j ≡ marks′ j)
+    → Keeps p q marks → Keeps p q marks′
+keeps-alike same kept = record {
+  low-kept = λ j l cited. kept .low-kept j l (same j l ∙ cited);
+  high-kept = λ j l cited. kept .high-kept j l (same j l ∙ cited);
+}
+
 module _ (p q : Plan) (wq : WellFormed q) (same : SameNetwork p q) where
   same-joined : Joined p
   same-joined = record {

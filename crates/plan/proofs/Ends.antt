@@ -73,6 +73,10 @@ module _ (p : Plan) (w : WellFormed p) (k : ℕ) (l : k < p .arcs) (S : Set) (s 
 -- ---- the plan with k held at a count x
 
 module _ (p : Plan) (k : ℕ) (l : k < p .arcs) (x : ℕ) where
+  -- its flows have x on k
+  pub held-there : {f : ℕ → ℕ} → Flow (held p k x) f → f k ≡ x
+  held-there c = omega (arith, c .within .least k l, c .within .most k l, put-there (p .low) k x, put-there (p .high) k x)
+
   -- where x is a count of k's range, the held ranges lie within the plan's, and a flow of theirs is a flow with x on k
   module _ (least : p .low k ≤ x) (most : x ≤ p .high k) where
     pub held-inside : RangesWithin p (held p k x)
@@ -81,12 +85,11 @@ module _ (p : Plan) (k : ℕ) (l : k < p .arcs) (x : ℕ) where
       high-within = λ j l′. put-cases (λ n. n ≤ p .high j) (p .high) k x j (λ e. rw e most) (λ ne. le-refl (p .high j));
     }
 
+    pub held-wider : {f : ℕ → ℕ} → Flow (held p k x) f → Flow p f
+    held-wider c = balance-flow (wider-within refl held-inside (c .within)) (flow-balance c)
+
     pub held-occurs : (f : ℕ → ℕ) → Flow (held p k x) f → Occurs p k x
-    held-occurs f c = record {
-      counts = f;
-      flow = balance-flow (wider-within refl held-inside (c .within)) (flow-balance c);
-      there = omega (arith, c .within .least k l, c .within .most k l, put-there (p .low) k x, put-there (p .high) k x);
-    }
+    held-occurs f c = record { counts = f; flow = held-wider c; there = held-there c }
 
   -- counts that keep to bounds of the plan keep to those of the held one, if they do on k
   pub held-keeps : {f : ℕ → ℕ} {A B : Set} → KeepsTo p f A B → (A k ≡ true → f k ≤ x) → (B k ≡ true → x ≤ f k)

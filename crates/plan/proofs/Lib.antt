@@ -5,6 +5,8 @@ pub mod Reach
 pub mod Hoffman
 pub mod Between
 pub mod Unique
+pub mod HeldCounts
+pub mod EitherEnd
 pub mod Demand3
 pub mod Refusals
 pub mod Wrong
@@ -13,3 +15,4 @@ pub mod First
 pub mod Sets
 pub mod Tried
 pub mod Worked
+pub mod Checked

@@ -3,7 +3,7 @@
 use Prim.Native.Nat.{ℕ, zero, suc, _≤_, _<_}
 use mathlib.Core.Path.{_≡_, refl, ap, sym, _∙_}
 use mathlib.Core.Bool.{Bool, true, false, cond, not, _||_, true≢false}
-use mathlib.Core.List.{List, [], _∷_}
+use mathlib.Core.List.{List, [], _∷_, _++_}
 use mathlib.Core.Logic.{_⊎_, ⊎-elim}
 use native.Mathlib.Omega.{arith}
 use native.Mathlib.Nat.{eq-or-lt-of-le, le-of-suc-le-suc}
@@ -13,9 +13,13 @@ use borrow.Author.Tests.{eqb-true, eqb-false, ltb-false, leb-false, eq-eqb, ne-e
 use Rattle.numbers.specs.Sums.{sumℤ}
 use Rattle.plan.specs.Limits.{most-nodes, most-arcs, most-supply, widest-high}
 use Rattle.plan.specs.Plan.{Plan, WellFormed}
-use Rattle.plan.specs.Verdict.{Rule, Lowest, lowest, verdict, limit-rules, network-rules}
+use Rattle.plan.specs.Verdict.{Rule, Lowest, lowest, verdict, whole, limit-rules, network-rules, asking-rules}
 use Rattle.plan.specs.declared.Verdict.{Verdict}
 use Rattle.plan.specs.declared.Verdict.the-variants.{Accepted, Refused}
+
+-- a verdict does not both accept and turn down
+pub accepted-or-refused : {v : Verdict} {n i : ℕ} → v ≡ Accepted → v ≡ Refused n i → ⊥
+accepted-or-refused e f = let clash : _≡_ {A = ℕ} 0 1 = cc in omega arith
 
 -- none of the first n places is concerned
 abbrev pub None : (ℕ → Bool) → ℕ → Type 0
@@ -78,7 +82,7 @@ clear-accepted (r ∷ rules) c =
     lowest-none (r .number) (r .concerns) (r .places) (verdict rules) (c .0) ∙ clear-accepted rules (c .1)
 
 -- two tests of which neither passes
-neither : (a b : Bool) → (a || b) ≡ false → (a ≡ false) × (b ≡ false)
+pub neither : (a b : Bool) → (a || b) ≡ false → (a ≡ false) × (b ≡ false)
 neither true b e = absurd (true≢false e)
 neither false b e = (refl, e)
 
@@ -142,3 +146,48 @@ module _ (p : Plan) where
       ),
     ),
   )
+
+-- ---- 8, after a network's numbers
+
+-- what comes after counts only where nothing was turned down before
+abbrev after : Verdict → Verdict → Verdict
+after Accepted v = v
+after (Refused n i) v = Refused n i
+
+lowest-after : (number : ℕ) (concerns : ℕ → Bool) (n : ℕ) (u v : Verdict) → lowest number concerns n (after u v) ≡ after (lowest number concerns n u) v
+lowest-after number concerns zero u v = refl
+lowest-after number concerns (suc n) u v =
+    ap (lowest number concerns n) (picked (concerns n)) ∙ lowest-after number concerns n (cond (concerns n) (Refused number n) u) v
+  where
+    picked : (t : Bool) → cond t (Refused number n) (after u v) ≡ after (cond t (Refused number n) u) v
+    picked true = refl
+    picked false = refl
+
+verdict-after : (rules more : List Rule) → verdict (rules ++ more) ≡ after (verdict rules) (verdict more)
+verdict-after [] more = refl
+verdict-after (r ∷ rules) more =
+    ap (lowest (r .number) (r .concerns) (r .places)) (verdict-after rules more)
+    ∙ lowest-after (r .number) (r .concerns) (r .places) (verdict rules) (verdict more)
+
+module _ (p : Plan) (short missing : Bool) where
+  eight : verdict (asking-rules p short missing) ≡ after (verdict (network-rules p short)) (cond missing (Refused 8 0) Accepted)
+  eight = verdict-after (network-rules p short) (whole 8 missing ∷ [])
+
+  pub asking-refused : {n i : ℕ} → verdict (network-rules p short) ≡ Refused n i → verdict (asking-rules p short missing) ≡ Refused n i
+  asking-refused e = eight ∙ ap (λ v. after v (cond missing (Refused 8 0) Accepted)) e
+
+  module _ (accepted : verdict (network-rules p short) ≡ Accepted) where
+    pub asking-missing : missing ≡ true → verdict (asking-rules p short missing) ≡ Refused 8 0
+    asking-missing e = eight ∙ rw (accepted, e)
+
+    pub asking-there : missing ≡ false → verdict (asking-rules p short missing) ≡ Accepted
+    asking-there e = eight ∙ rw (accepted, e)
+
+  -- a request that is accepted has an accepted network, and what it asks about is there
+  pub asking-accepted : verdict (asking-rules p short missing) ≡ Accepted → (verdict (network-rules p short) ≡ Accepted) × (missing ≡ false)
+  asking-accepted e = by (verdict (network-rules p short)) missing (sym eight ∙ e)
+    where
+      by : (v : Verdict) (t : Bool) → after v (cond t (Refused 8 0) Accepted) ≡ Accepted → (v ≡ Accepted) × (t ≡ false)
+      by Accepted true h = let clash : _≡_ {A = ℕ} 0 1 = cc in absurd (omega arith)
+      by Accepted false h = (refl, refl)
+      by (Refused n i) t h = let clash : _≡_ {A = ℕ} 0 1 = cc in absurd (omega arith)

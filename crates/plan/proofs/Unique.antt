@@ -11,24 +11,32 @@ use Rattle.numbers.specs.Sums.{sum, only, sum-in}
 use Rattle.numbers.proofs.Parts.{plus, minus, whole, add}
 use Rattle.numbers.proofs.Sums.{last-or-before, sum-balance, sum-le, sum-add}
 use Rattle.plan.specs.Plan.{Plan, Set, WellFormed}
-use Rattle.plan.specs.Flow.{total, FirstFlow, Smallest, Largest, Narrowed}
-use Rattle.plan.specs.Shortage.{leaves, enters, shortfall, Inside, Shortage}
+use Rattle.plan.specs.Flow.{total, Flow, FirstFlow, Smallest, Largest, Narrowed}
+use Rattle.plan.specs.Shortage.{leaves, enters, shortfall, Inside, Shortage, ShortBy}
 use Rattle.plan.specs.Reason.{ReasonSet}
-use Rattle.plan.proofs.Cut.{shortfall-parts}
+use Rattle.plan.proofs.Cut.{shortfall-parts, flow-leaves-no-shortfall}
 use Rattle.plan.proofs.Ends.{smallest-least, largest-most}
 
--- two first flows agree on every arc: on the first one where they could differ, neither has less
-agree-before : (p : Plan) (f g : ℕ → ℕ) → FirstFlow p f → FirstFlow p g → (i : ℕ) → i ≤ p .arcs → (j : ℕ) → j < i → f j ≡ g j
-agree-before p f g a b zero l j h = absurd (omega arith)
-agree-before p f g a b (suc i) l j h =
-    let before : (m : ℕ) → m < i → f m ≡ g m = agree-before p f g a b i (omega arith) in
+-- where counts f and g agree before an index, f has no more on it
+abbrev pub Leads : ℕ → (f g : ℕ → ℕ) → Type 0
+Leads n f g = (i : ℕ) → i < n → ((j : ℕ) → j < i → g j ≡ f j) → f i ≤ g i
+
+-- counts that lead each other agree: on the first index where they could differ, neither has less
+agree-before : (n : ℕ) (f g : ℕ → ℕ) → Leads n f g → Leads n g f → (i : ℕ) → i ≤ n → (j : ℕ) → j < i → f j ≡ g j
+agree-before n f g a b zero l j h = absurd (omega arith)
+agree-before n f g a b (suc i) l j h =
+    let before : (m : ℕ) → m < i → f m ≡ g m = agree-before n f g a b i (omega arith) in
     ⊎-elim
-    (λ e. rw e (omega (arith, a .first g (b .flow) i l (λ m lm. sym (before m lm)), b .first f (a .flow) i l before)))
+    (λ e. rw e (omega (arith, a i l (λ m lm. sym (before m lm)), b i l before)))
     (before j)
     (last-or-before h)
 
+pub leaders-agree : (n : ℕ) (f g : ℕ → ℕ) → Leads n f g → Leads n g f → (k : ℕ) → k < n → f k ≡ g k
+leaders-agree n f g a b k l = agree-before n f g a b (suc k) l k (omega arith)
+
+-- so two first flows agree on every arc
 pub first-flow-unique : (p : Plan) (f g : ℕ → ℕ) → FirstFlow p f → FirstFlow p g → (k : ℕ) → k < p .arcs → f k ≡ g k
-first-flow-unique p f g a b k l = agree-before p f g a b (suc k) l k (omega arith)
+first-flow-unique p f g a b = leaders-agree (p .arcs) f g (a .first g (b .flow)) (b .first f (a .flow))
 
 pub smallest-unique : {p : Plan} {k a b : ℕ} → Smallest p k a → Smallest p k b → a ≡ b
 smallest-unique x y = omega (arith, smallest-least x (y .occurs), smallest-least y (x .occurs))
@@ -53,6 +61,14 @@ shortage-unique p S R a b = inside-both p S R (a .least R same) (b .least S (sym
   where
     same : shortfall p R ≡ shortfall p S
     same = omega (whole, a .greatest R, b .greatest S)
+
+-- a plan that is short is short by one value
+pub short-by-unique : {p : Plan} {a b : ℤ} {S R : Set} → ShortBy p a S → ShortBy p b R → a ≡ b
+short-by-unique {S = S} {R} x y = omega (whole, x .value-is, y .value-is, x .shortage .greatest R, y .shortage .greatest S)
+
+-- and has no flow
+pub short-or-flow : {p : Plan} → WellFormed p → {value : ℤ} {S : Set} → ShortBy p value S → {f : ℕ → ℕ} → Flow p f → ⊥
+short-or-flow {p} w {S = S} x {f} c = omega (whole, flow-leaves-no-shortfall p w f c S, x .value-is, x .positive)
 
 -- the set of a reason, whichever end it is for
 pub reason-unique : (p : Plan) (k : ℕ) (sum : Set → ℤ) (a b : ℕ) (S R : Set) → a ≡ b

@@ -1,6 +1,7 @@
 -- Flows, after equation (1) of source document 001. A function gives each arc its count; only arcs of the plan matter.
 use Prim.Native.Nat.{ℕ, _≤_, _<_}
 use mathlib.Core.Path.{_≡_}
+use mathlib.Core.Logic.{_⊎_}
 use lib.Dec.{eqb}
 use lib.IntN.{pos, _-ℤ_}
 use Rattle.numbers.specs.Sums.{sum-in, put}
@@ -32,6 +33,11 @@ pub record FirstFlow (p : Plan) (f : ℕ → ℕ) : Type 0 where
   pub flow : Flow p f
   pub first : (g : ℕ → ℕ) → Flow p g → (i : ℕ) → i < p .arcs → ((j : ℕ) → j < i → g j ≡ f j) → f i ≤ g i
 
+-- the plan has a flow
+pub record HasFlow (p : Plan) : Type 0 where
+  pub counts : ℕ → ℕ
+  pub flow : Flow p counts
+
 -- some flow has this count on the arc
 pub record Occurs (p : Plan) (k count : ℕ) : Type 0 where
   pub counts : ℕ → ℕ
@@ -51,6 +57,19 @@ pub record Largest (p : Plan) (k count : ℕ) : Type 0 where
 pub record Narrowed (p : Plan) (k low high : ℕ) : Type 0 where
   pub low-end : Smallest p k low
   pub high-end : Largest p k high
+
+-- a count outside the narrowed range of an arc
+pub record OutsideRange (p : Plan) (k count : ℕ) : Type 0 where
+  pub low : ℕ
+  pub high : ℕ
+  pub narrowed : Narrowed p k low high
+  pub outside : (count < low) ⊎ (high < count)
+
+-- the first flow among those with a count on an arc
+pub record FirstWith (p : Plan) (k count : ℕ) (f : ℕ → ℕ) : Type 0 where
+  pub flow : Flow p f
+  pub there : f k ≡ count
+  pub first : (g : ℕ → ℕ) → Flow p g → g k ≡ count → (i : ℕ) → i < p .arcs → ((j : ℕ) → j < i → g j ≡ f j) → f i ≤ g i
 
 -- the plan with one arc held at a count
 abbrev pub held : Plan → ℕ → ℕ → Plan

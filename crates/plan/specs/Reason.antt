@@ -65,3 +65,19 @@ low-marks p k S = mark p (others k (leaves p S)) (enters p S)
 
 abbrev pub high-marks : Plan → ℕ → Set → ℕ → ℕ
 high-marks p k S = mark p (enters p S) (others k (leaves p S))
+
+-- ---- either end of an arc: the low one, or the high one where `upper` holds
+
+abbrev pub own-end : Plan → ℕ → (upper : Bool) → ℕ
+own-end p k upper = cond upper (p .high k) (p .low k)
+
+abbrev pub NarrowedEnd : Plan → ℕ → (upper : Bool) → ℕ → Type 0
+NarrowedEnd p k false value = Smallest p k value
+NarrowedEnd p k true value = Largest p k value
+
+abbrev pub EndReason : Plan → ℕ → (upper : Bool) → ℕ → Set → Type 0
+EndReason p k false value S = LowReason p k value S
+EndReason p k true value S = HighReason p k value S
+
+abbrev pub end-marks : Plan → ℕ → (upper : Bool) → Set → ℕ → ℕ
+end-marks p k upper S j = cond upper (high-marks p k S j) (low-marks p k S j)

@@ -6,6 +6,7 @@ use mathlib.Core.Bool.{Bool, true, false, cond, _||_, not}
 use mathlib.Core.List.{List, [], _∷_, _++_}
 use lib.Dec.{leb, ltb, eqb}
 use lib.IntN.{natAbs}
+use lib.ListN.{length}
 use Rattle.numbers.specs.Sums.{sumℤ}
 use Rattle.plan.specs.Limits.{most-nodes, most-arcs, most-supply, widest-high}
 use Rattle.plan.specs.Plan.{Plan, Set}
@@ -72,3 +73,11 @@ limit-rules p =
 -- 1 to 7 for a network; 3 is given where a lent buffer is too short for what the request may write
 abbrev pub network-rules : Plan → (short : Bool) → List Rule
 network-rules p short = count-rules p ++ (whole 3 short ∷ limit-rules p)
+
+-- 8 after them, for a request about something that may be missing
+abbrev pub asking-rules : Plan → (short missing : Bool) → List Rule
+asking-rules p short missing = network-rules p short ++ (whole 8 missing ∷ [])
+
+-- of two lent buffers, of which m entries and n entries are asked, one is too short
+abbrev pub lent-short : (first : List ℕ) → ℕ → (second : List ℕ) → ℕ → Bool
+lent-short first m second n = ltb (length first) m || ltb (length second) n

@@ -3,13 +3,15 @@ use crate::Arc;
 use crate::Plan;
 use crate::Verdict;
 ghost use mathlib.Core.Path.{_≡_};
+ghost use mathlib.Core.Bool.{_||_};
 ghost use Prim.Native.Nat.{ℕ, _/_, _≤_, _<_};
+ghost use lib.Dec.{ltb};
 ghost use lib.IntN.{pos, natAbs};
 ghost use lib.ListN.{length, getD};
 ghost use Rattle.numbers.specs.Sums.{sumℤ};
 ghost use Rattle.plan.specs.Limits.{most-nodes, most-supply, arc-entries};
 ghost use Rattle.plan.specs.Plan.{plan-of};
-ghost use Rattle.plan.specs.Verdict.{Lowest, end-wrong, range-wrong, supply-wrong, sum-wrong, verdict, limit-rules, network-rules};
+ghost use Rattle.plan.specs.Verdict.{Lowest, end-wrong, range-wrong, supply-wrong, sum-wrong, verdict, limit-rules, network-rules, asking-rules};
 
 // An index of the caller's numbers is at most 32 bits wide and fits.
 fn wide(x: u32) -> usize
@@ -159,4 +161,27 @@ pub fn check(arcs: &[u32], supplies: &[i32], short: bool) -> Verdict
         return Verdict::Refused(3, 0);
     }
     check_limits(arcs, supplies)
+}
+
+// Whether one buffer has less than m entries, or another less than n.
+pub fn too_short(first: usize, m: usize, second: usize, n: usize) -> bool
+    ensures { λ r. ⌜ r ≡ (ltb first m || ltb second n) ⌝ }
+{
+    if first < m {
+        return true;
+    }
+    second < n
+}
+
+// The check of a network, and then 8 where what is asked about is missing.
+pub fn check_asked(arcs: &[u32], supplies: &[i32], short: bool, missing: bool) -> Verdict
+    ensures { λ r. ⌜ r ≡ verdict (asking-rules (plan-of (now (arcs .entry)) (now (supplies .entry))) short missing) ⌝ }
+{
+    if let Verdict::Refused(number, index) = check(arcs, supplies, short) {
+        return Verdict::Refused(number, index);
+    }
+    if missing {
+        return Verdict::Refused(8, 0);
+    }
+    Verdict::Accepted
 }

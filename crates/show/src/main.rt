@@ -1,10 +1,15 @@
-// Asks the flow question of the plans that document 01 works by hand, and prints a line for each: the
-// first flow's counts; or the shortfall, the stations of the shortage and the limits cited, each as arc
-// and end; or the number and the place by which the plan is turned down. It uses `flow` and the kit's `io`.
+// Asks the unit about the plans that document 01 works by hand. A line for each plan: the first flow's
+// counts; or the shortfall, the stations of the shortage and the limits cited, each as arc and end; or the
+// number and the place by which the plan is turned down. Under a plan that runs, the narrowed ranges and a
+// line for each end of each arc: that it stands, or where it moved, by which stations and limits. Then an
+// arc held at some counts. It uses the four requests and the kit's `io`.
 use flow::Answer;
 use flow::question::question;
+use held::request::hold;
 use io::print_decimal;
 use libc::STDOUT_FILENO;
+use narrow::request::narrow;
+use reason::request::reason;
 
 fn say(text: &[u8]) {
     io::write_all(STDOUT_FILENO, text);
@@ -60,42 +65,145 @@ fn say_cited(marks: &[u32]) {
     }
 }
 
-fn show(name: &[u8], arcs: &[u32], supplies: &[i32]) {
+// The marks of a shortage or of a reason.
+fn say_marks(nodes: &[u8], arcs: &[u32]) {
+    say(b", in");
+    say_set(nodes);
+    say(b", cites");
+    say_cited(arcs);
+}
+
+fn say_none(value: i64) {
+    say(b" none");
+    say_shortfall(value);
+}
+
+fn say_refused(number: u32, index: usize) {
+    say(b" refused");
+    say_number(number as u64);
+    say(b" at");
+    say_number(index as u64);
+}
+
+fn show_flow(arcs: &[u32], supplies: &[i32]) {
     let mut arc_buffer = [0u32; 4];
     let mut node_buffer = [0u8; 4];
-    let answer = question(arcs, supplies, &mut arc_buffer, &mut node_buffer);
-    say(name);
-    match answer {
+    match question(arcs, supplies, &mut arc_buffer, &mut node_buffer) {
         Answer::Runs => {
             say(b" runs");
             say_counts(&arc_buffer, arcs.len() / 4);
         }
         Answer::Short(value) => {
-            say(b" none");
-            say_shortfall(value);
-            say(b", in");
-            say_set(&node_buffer);
-            say(b", cites");
-            say_cited(&arc_buffer);
+            say_none(value);
+            say_marks(&node_buffer, &arc_buffer);
         }
-        Answer::Refused(number, index) => {
-            say(b" refused");
-            say_number(number as u64);
-            say(b" at");
-            say_number(index as u64);
-        }
+        Answer::Refused(number, index) => say_refused(number, index),
     }
     say(b"\n");
 }
 
+fn show_ranges(arcs: &[u32], supplies: &[i32]) {
+    let mut lows = [0u32; 4];
+    let mut highs = [0u32; 4];
+    match narrow(arcs, supplies, &mut lows, &mut highs) {
+        Answer::Runs => {
+            say(b"  from");
+            say_counts(&lows, arcs.len() / 4);
+            say(b" to");
+            say_counts(&highs, arcs.len() / 4);
+        }
+        Answer::Short(value) => say_none(value),
+        Answer::Refused(number, index) => say_refused(number, index),
+    }
+    say(b"\n");
+}
+
+// One end of one arc: 0 the low end, 1 the high end.
+fn show_end(arcs: &[u32], supplies: &[i32], arc: u32, end: u32) {
+    let mut arc_buffer = [0u32; 4];
+    let mut node_buffer = [0u8; 4];
+    say(b"  arc");
+    say_number(arc as u64);
+    say(b" end");
+    say_number(end as u64);
+    match reason(arcs, supplies, arc, end, &mut arc_buffer, &mut node_buffer) {
+        reason::Answer::Stands => say(b" stands"),
+        reason::Answer::Moved(value) => {
+            say(b" moved to");
+            say_number(value as u64);
+            say_marks(&node_buffer, &arc_buffer);
+        }
+        reason::Answer::Short(value) => say_none(value),
+        reason::Answer::Refused(number, index) => say_refused(number, index),
+    }
+    say(b"\n");
+}
+
+fn show_held(arcs: &[u32], supplies: &[i32], arc: u32, count: u32) {
+    let mut arc_buffer = [0u32; 4];
+    say(b"  arc");
+    say_number(arc as u64);
+    say(b" at");
+    say_number(count as u64);
+    match hold(arcs, supplies, arc, count, &mut arc_buffer) {
+        held::Answer::Runs => {
+            say(b" runs");
+            say_counts(&arc_buffer, arcs.len() / 4);
+        }
+        held::Answer::Short(value) => say_none(value),
+        held::Answer::Outside => say(b" outside"),
+        held::Answer::Refused(number, index) => say_refused(number, index),
+    }
+    say(b"\n");
+}
+
+// A plan of m arcs that runs: its ranges, and why each end of each arc lies where it does.
+fn show_ends(arcs: &[u32], supplies: &[i32], m: u32) {
+    show_ranges(arcs, supplies);
+    let mut arc = 0;
+    while arc < m {
+        show_end(arcs, supplies, arc, 0);
+        show_end(arcs, supplies, arc, 1);
+        arc += 1;
+    }
+}
+
+fn show(name: &[u8], arcs: &[u32], supplies: &[i32], m: u32) {
+    say(name);
+    show_flow(arcs, supplies);
+    show_ends(arcs, supplies, m);
+}
+
+fn refuse(name: &[u8], arcs: &[u32], supplies: &[i32]) {
+    say(name);
+    show_flow(arcs, supplies);
+}
+
+// P1, and its arc 0 held at a count inside its narrowed range and at one outside.
+fn show_first() {
+    let arcs = [0, 1, 0, 4, 0, 2, 0, 3, 1, 2, 0, 9];
+    let supplies = [5, 0, -5];
+    show(b"P1", &arcs, &supplies, 3);
+    show_held(&arcs, &supplies, 0, 3);
+    show_held(&arcs, &supplies, 0, 1);
+}
+
+fn show_second() {
+    refuse(b"P2", &[0, 1, 0, 4, 0, 2, 0, 0, 1, 2, 0, 9], &[5, 0, -5]);
+    refuse(b"P3", &[0, 1, 0, 255], &[256, -256]);
+    show(b"P4", &[0, 1, 0, 256], &[256, -256], 1);
+    show(b"P5", &[0, 0, 3, 7], &[0], 1);
+}
+
+fn show_third() {
+    refuse(b"P6", &[], &[1, -1]);
+    refuse(b"P7", &[], &[1]);
+    refuse(b"P8", &[0, 1, 1, 2], &[0, 0]);
+    show(b"P9", &[0, 1, 0, 1, 0, 1, 0, 1], &[1, -1], 2);
+}
+
 fn main() {
-    show(b"P1", &[0, 1, 0, 4, 0, 2, 0, 3, 1, 2, 0, 9], &[5, 0, -5]);
-    show(b"P2", &[0, 1, 0, 4, 0, 2, 0, 0, 1, 2, 0, 9], &[5, 0, -5]);
-    show(b"P3", &[0, 1, 0, 255], &[256, -256]);
-    show(b"P4", &[0, 1, 0, 256], &[256, -256]);
-    show(b"P5", &[0, 0, 3, 7], &[0]);
-    show(b"P6", &[], &[1, -1]);
-    show(b"P7", &[], &[1]);
-    show(b"P8", &[0, 1, 1, 2], &[0, 0]);
-    show(b"P9", &[0, 1, 0, 1, 0, 1, 0, 1], &[1, -1]);
+    show_first();
+    show_second();
+    show_third();
 }

@@ -1,6 +1,6 @@
 -- The first flow, arc by arc. The arcs before i are held at the counts written so far, each the smallest that it had in its turn;
 -- one count more changes no plan before it, and makes the next.
-use Prim.Native.Nat.{ℕ, zero, suc, _+_, _≤_, _<_}
+use Prim.Native.Nat.{ℕ, zero, suc, _+_, _/_, _≤_, _<_}
 use mathlib.Core.Path.{_≡_, refl, sym, ap, ap₂, subst, _∙_}
 use mathlib.Core.Bool.{Bool, true, false, cond}
 use mathlib.Core.List.{List}
@@ -8,16 +8,19 @@ use mathlib.Core.Logic.{⊎-elim}
 use native.Mathlib.Omega.{arith}
 use native.Mathlib.Numerals.{add-one}
 use lib.Dec.{ltb}
+use lib.IntN.{ℤ}
 use lib.ListN.{length, set}
 use lib.Seq.{getD-set-same, getD-set-other}
 use borrow.Author.Tests.{le-ltb, ltb-true}
-use Rattle.numbers.proofs.Sums.{last-or-before}
+use Rattle.numbers.specs.Sums.{put}
+use Rattle.numbers.proofs.Sums.{last-or-before, put-elsewhere}
 use Rattle.engine.specs.Room.{at}
-use Rattle.plan.specs.Plan.{Plan, WellFormed}
+use Rattle.plan.specs.Limits.{arc-entries}
+use Rattle.plan.specs.Plan.{Plan, WellFormed, plan-of}
 use Rattle.plan.specs.Flow.{FirstFlow, Smallest, held}
 use Rattle.plan.proofs.Narrowing.{limited}
 use Rattle.plan.proofs.First.{fixed, fixed-well-formed, fixed-start-plan, fixed-next-plan, first-flow-by-arcs}
-use Rattle.stand.specs.State.{Ready, Standing, Possible}
+use Rattle.stand.specs.State.{Listed, Ready, Standing, Possible, Fixing}
 use Rattle.stand.proofs.Standing.{ready-flow}
 
 pub smallest-possible : {p : Plan} {k count : ℕ} → k < p .arcs → Smallest p k count → Possible p k count
@@ -35,18 +38,43 @@ module _ (p : Plan) (f : ℕ → ℕ) (i : ℕ) where
   own-high : fixed p f i .high i ≡ p .high i
   own-high = rw (le-ltb i i (omega arith))
 
-  pub fixed-standing : {room : ℕ → ℕ → ℕ} {over under : ℕ → ℕ} → i < p .arcs → WellFormed (fixed p f i) → Ready (fixed p f i) room over under
-      → Standing (fixed p f i) i (p .nodes) (p .from i) (p .to i) (p .low i) (p .high i) room over under
-  fixed-standing l w y = record {
-    well-formed = w;
-    arc = l;
-    nodes-are = refl;
-    from-is = refl;
-    to-is = refl;
-    low-is = own-low;
-    high-is = own-high;
-    ready = y;
-  }
+-- the plan that is listed where no arc is held, and where one is
+pub listed-whole : (arcs : List ℕ) (supplies : List ℤ) (count : ℕ) → Listed arcs supplies (length arcs / arc-entries) count (plan-of arcs supplies)
+listed-whole arcs supplies count = record {
+  nodes-are = refl;
+  arcs-are = refl;
+  from-is = λ i l. refl;
+  to-is = λ i l. refl;
+  low-is = λ i l. sym (put-elsewhere (plan-of arcs supplies .low) (length arcs / arc-entries) count i (λ e. omega arith));
+  high-is = λ i l. sym (put-elsewhere (plan-of arcs supplies .high) (length arcs / arc-entries) count i (λ e. omega arith));
+}
+
+pub listed-held : (arcs : List ℕ) (supplies : List ℤ) (k count : ℕ) → Listed arcs supplies k count (held (plan-of arcs supplies) k count)
+listed-held arcs supplies k count = record {
+  nodes-are = refl;
+  arcs-are = refl;
+  from-is = λ i l. refl;
+  to-is = λ i l. refl;
+  low-is = λ i l. refl;
+  high-is = λ i l. refl;
+}
+
+pub fixing-standing : {arcs : List ℕ} {supplies : List ℤ} {k count i : ℕ} {p : Plan} {f : ℕ → ℕ} {room : ℕ → ℕ → ℕ} {over under : ℕ → ℕ}
+    → i < length arcs / arc-entries → Fixing arcs supplies k count i p f room over under
+    → Standing (fixed p f i) i (length supplies) (plan-of arcs supplies .from i) (plan-of arcs supplies .to i)
+    (put (plan-of arcs supplies .low) k count i) (put (plan-of arcs supplies .high) k count i) room over under
+fixing-standing {i = i} {p = p} {f = f} l x =
+    let there : i < p .arcs = omega (arith, l, x .listed .arcs-are) in
+    record {
+      well-formed = x .well-formed;
+      arc = there;
+      nodes-are = x .listed .nodes-are;
+      from-is = x .listed .from-is i there;
+      to-is = x .listed .to-is i there;
+      low-is = own-low p f i ∙ x .listed .low-is i there;
+      high-is = own-high p f i ∙ x .listed .high-is i there;
+      ready = x .ready;
+    }
 
 -- counts that agree before i hold the same arcs at the same counts
 pub fixed-agree : (p : Plan) (f g : ℕ → ℕ) (i : ℕ) → ((j : ℕ) → j < i → f j ≡ g j) → fixed p f i ≡ fixed p g i

@@ -13,7 +13,7 @@ use Rattle.numbers.specs.Sums.{only, sum-in, put}
 use Rattle.numbers.proofs.Parts.{plus, minus, whole, add}
 use Rattle.numbers.proofs.Sums.{sum-change, sum-in-zero, sum-in-put, put-there, put-elsewhere}
 use Rattle.engine.specs.Room.{crossing, Small}
-use Rattle.engine.specs.Raise.{Balanced, HeldOut}
+use Rattle.across.specs.Raise.{Balanced, HeldOut}
 use Rattle.plan.specs.Limits.{widest-high}
 use Rattle.plan.specs.Plan.{Plan, Set, WellFormed}
 use Rattle.plan.specs.Flow.{total, held}

@@ -4,3 +4,4 @@ pub mod Holding
 pub mod OneArc
 pub mod Firsts
 pub mod Asking
+pub mod Writing

@@ -1,18 +1,19 @@
 -- One arc of a plan that stands ready, said in the numbers that the code has: n nodes, the arc from a to b, its range low..high.
 use Prim.Native.Nat.{ℕ, _+_, _-_, _≤_, _<_}
-use mathlib.Core.Path.{_≡_, refl, sym, ap, subst, _∙_}
-use mathlib.Core.Bool.{Bool, true, false}
+use mathlib.Core.Path.{_≡_, refl, sym, _∙_}
+use mathlib.Core.Bool.{Bool, true, false, cond}
 use mathlib.Core.List.{List}
 use native.Mathlib.Omega.{arith}
-use Rattle.numbers.proofs.Sums.{put-cases}
-use Rattle.engine.specs.Room.{Small, Kept}
-use Rattle.engine.specs.Raise.{Balanced, NoneShort, Raised, HeldOut}
-use Rattle.engine.proofs.Sweeping.{kept-on, kept-small}
+use Rattle.engine.specs.Room.{seen, Small, Kept}
+use Rattle.across.specs.Raise.{Balanced, NoneShort, Free, Measured, HeldOut}
+use Rattle.engine.proofs.Sweeping.{kept-small}
 use Rattle.plan.specs.Plan.{Plan, WellFormed}
-use Rattle.plan.specs.Flow.{Flow, Occurs, Smallest, held}
-use Rattle.plan.proofs.Narrowing.{held-well-formed, loop-smallest}
+use Rattle.plan.specs.Flow.{Flow, held}
+use Rattle.plan.specs.Reason.{NarrowedEnd, EndReason}
+use Rattle.plan.proofs.Narrowing.{held-well-formed, loop-smallest, loop-largest}
+use Rattle.plan.proofs.HeldCounts.{held-flow}
 use Rattle.stand.specs.State.{Represents, Ready, Standing, Possible}
-use Rattle.stand.proofs.Standing.{kept-represents, flow-none-short, ready-flow, raised-represents, raised-small, raised-smallest}
+use Rattle.stand.proofs.Standing.{kept-represents, flow-none-short, ready-flow, still-ready, free-end, free-reason, seen-still}
 use Rattle.stand.proofs.Holding.{width-in-pair, held-represents, held-small, loop-held-represents}
 
 -- a state in balance after another that kept the accounts stands ready
@@ -46,49 +47,83 @@ module _ {p : Plan} {k n a b low high : ℕ} {room : ℕ → ℕ → ℕ} {over 
       rw (st .from-is, st .to-is, st .low-is, st .high-is) at
       (width-in-pair p k (st .arc) 0 (st .well-formed) (st .ready .represents) (other ne))
 
-  -- the smallest count, from the room that is free; a self-loop's is its low
-  module _ {room′ : ℕ → ℕ → ℕ} {over′ under′ : ℕ → ℕ} {free : ℕ} {marks : List ℕ}
-      (r : Raised n room room′ over′ under′ a b (high - low) free marks) where
-    own : Raised (p .nodes) room room′ over′ under′ (p .from k) (p .to k) (p .high k - p .low k) free marks
-    own = rw (st .nodes-are, st .from-is, st .to-is, st .low-is, st .high-is) r
+  -- a self-loop's ends stand
+  pub standing-loop : (upper : Bool) → b ≡ a → NarrowedEnd p k upper (cond upper high low)
+  standing-loop upper e = by upper
+    where
+      flows : (f : ℕ → ℕ) × Flow p f
+      flows = ready-flow (st .well-formed) (st .ready)
 
-    pub standing-smallest : Smallest p k (high - free)
-    standing-smallest = rw (st .high-is) at (raised-smallest (st .well-formed) (st .ready) k (st .arc) own)
+      loop : p .from k ≡ p .to k
+      loop = st .from-is ∙ sym e ∙ sym (st .to-is)
 
-    pub standing-raised : Represents p room′ over′ under′
-    standing-raised = raised-represents (st .well-formed) (st .ready) own
+      by : (t : Bool) → NarrowedEnd p k t (cond t high low)
+      by false = rw (st .low-is) at (loop-smallest p (st .well-formed) (flows .0) (flows .1) k (st .arc) loop)
+      by true = rw (st .high-is) at (loop-largest p (st .well-formed) (flows .0) (flows .1) k (st .arc) loop)
 
-    pub standing-raised-small : Small (p .nodes) room′ under′
-    standing-raised-small =
-        raised-small (st .well-formed) (st .ready) own (omega (arith, st .well-formed .high-fits k (st .arc)))
+-- an arc in its plan's own words
+pub own-standing : {p : Plan} {k : ℕ} {room : ℕ → ℕ → ℕ} {over under : ℕ → ℕ} → WellFormed p → k < p .arcs → Ready p room over under
+    → Standing p k (p .nodes) (p .from k) (p .to k) (p .low k) (p .high k) room over under
+own-standing w l y = record {
+  well-formed = w;
+  arc = l;
+  nodes-are = refl;
+  from-is = refl;
+  to-is = refl;
+  low-is = refl;
+  high-is = refl;
+  ready = y;
+}
 
-    -- no set is short after raising, nor after what keeps the accounts
-    pub standing-raised-covered : NoneShort n room′ over′ under′
-    standing-raised-covered =
-        let flows = ready-flow (st .well-formed) (st .ready) in
-        rw (st .nodes-are) at (flow-none-short standing-raised (st .well-formed) (flows .0) (flows .1))
+-- the same arc of the same plan, in another state that is ready
+pub standing-on : {p : Plan} {k n a b low high : ℕ} {room room′ : ℕ → ℕ → ℕ} {over under over′ under′ : ℕ → ℕ}
+    → Standing p k n a b low high room over under → Ready p room′ over′ under′ → Standing p k n a b low high room′ over′ under′
+standing-on st y = record {
+  well-formed = st .well-formed;
+  arc = st .arc;
+  nodes-are = st .nodes-are;
+  from-is = st .from-is;
+  to-is = st .to-is;
+  low-is = st .low-is;
+  high-is = st .high-is;
+  ready = y;
+}
 
-    -- balanced again, the plan stands ready
-    pub standing-again : {room₂ room₃ : ℕ → ℕ → ℕ} {over₂ under₂ over₃ under₃ : ℕ → ℕ} → Kept n room′ over′ under′ room₂ over₂ under₂
-        → Kept n room₂ over₂ under₂ room₃ over₃ under₃ → Balanced n over₃ under₃ → Ready p room₃ over₃ under₃
-    standing-again k k′ = again-ready (st .nodes-are) standing-raised standing-raised-small (kept-on k k′)
+-- ---- whichever way the rooms are looked at
 
-  pub standing-loop : b ≡ a → Smallest p k low
-  standing-loop e = rw (st .low-is) at
-      (loop-smallest p (st .well-formed) (ready-flow (st .well-formed) (st .ready) .0) (ready-flow (st .well-formed) (st .ready) .1) k (st .arc)
-      (st .from-is ∙ sym e ∙ sym (st .to-is)))
+module _ {p : Plan} {k n a b low high : ℕ} (rooms : List ℕ) {over under : ℕ → ℕ} (st : Standing p k n a b low high (seen rooms false) over under) where
+  pub facing-small : (upper : Bool) → Small n (seen rooms upper) under
+  facing-small false = standing-small st
+  facing-small true = record {
+    pairs-small = λ x y lx ly ne. omega (arith, standing-small st .pairs-small x y lx ly ne);
+    under-small = standing-small st .under-small;
+  }
+
+  pub facing-wide : (upper : Bool) → (b ≡ a → ⊥) → high - low ≤ seen rooms upper a b + seen rooms upper b a
+  facing-wide false ne = standing-wide st ne
+  facing-wide true ne = omega (arith, standing-wide st ne)
+
+  module _ (upper : Bool) {free : ℕ} {S : ℕ → Bool} (m : Free n (seen rooms upper) a b (high - low) free S) where
+    own : Free (p .nodes) (seen rooms upper) (p .from k) (p .to k) (p .high k - p .low k) free S
+    own = rw (st .nodes-are, st .from-is, st .to-is, st .low-is, st .high-is) m
+
+    -- the narrowed end, from the room that is free; and where not all is free, the reason
+    pub facing-end : NarrowedEnd p k upper (cond upper (low + free) (high - free))
+    facing-end = rw (st .low-is, st .high-is) at (free-end (st .well-formed) rooms (st .ready) k (st .arc) upper own)
+
+    pub facing-reason : free < high - low → EndReason p k upper (cond upper (low + free) (high - free)) S
+    facing-reason less = rw (st .low-is, st .high-is) at
+        (free-reason (st .well-formed) rooms (st .ready) k (st .arc) upper own (omega (arith, less, st .low-is, st .high-is)))
+
+-- measured and in balance again, the plan stands ready
+pub measured-ready : {p : Plan} {k n a b low high width free : ℕ} {upper : Bool} {rooms rooms′ : List ℕ} {over under over′ under′ : ℕ → ℕ}
+    → Standing p k n a b low high (seen rooms false) over under → Measured n upper rooms rooms′ a b width free → Balanced n over′ under′
+    → Ready p (seen rooms′ false) over′ under′
+measured-ready {n = n} {upper = upper} {rooms = rooms} {rooms′ = rooms′} st m b =
+    still-ready (st .ready .represents) (st .ready .balanced) (st .ready .small)
+    (rw (st .nodes-are) (seen-still n rooms rooms′ upper (m .still))) (rw (st .nodes-are) b)
 
 -- ---- held at a count
-
--- a flow that has the count is a flow of the plan in which the arc is held at it
-pub held-flow : {p : Plan} {k c : ℕ} → (o : Occurs p k c) → Flow (held p k c) (o .counts)
-held-flow {p} {k} {c} o = record {
-  within = record {
-    least = λ j l. put-cases (λ x. x ≤ o .counts j) (p .low) k c j (λ e. omega (arith, o .there, ap (o .counts) e)) (λ ne. o .flow .within .least j l);
-    most = λ j l. put-cases (λ x. o .counts j ≤ x) (p .high) k c j (λ e. omega (arith, o .there, ap (o .counts) e)) (λ ne. o .flow .within .most j l);
-  };
-  balanced = o .flow .balanced;
-}
 
 module _ {p : Plan} {k n a b low high count : ℕ} {room : ℕ → ℕ → ℕ} {over under : ℕ → ℕ} (st : Standing p k n a b low high room over under)
     (c : Possible p k count) where

@@ -2,32 +2,28 @@
 -- shortfall is below 0, so the least room across is the room that an arc's count has; and an arc whose share is taken out is held.
 use Prim.Native.Nat.{ℕ, _+_, _-_, _≤_, _<_, _^_}
 use mathlib.Core.Path.{_≡_, refl, sym, ap, _∙_}
-use mathlib.Core.Bool.{Bool, true, false, not, _&&_, false≢true}
+use mathlib.Core.Bool.{Bool, true, false, cond, false≢true}
 use mathlib.Core.List.{List}
 use mathlib.Core.Logic.{_⊎_, inl, inr, by-cases}
 use native.Mathlib.Omega.{arith}
 use native.Mathlib.Decide.{decLt}
-use native.Mathlib.Nat.{sub-self}
-use lib.Dec.{eqb}
 use lib.IntN.{ℤ, pos, _+ℤ_}
 use lib.Signed.{_≤ℤ_}
-use borrow.Author.Tests.{eq-eqb, eqb-true}
-use Rattle.numbers.specs.Sums.{sum, only, sum-in, put}
+use Rattle.numbers.specs.Sums.{sum, sum-in}
 use Rattle.numbers.proofs.Parts.{plus, minus, whole, add}
-use Rattle.numbers.proofs.Sums.{sum-change, sumℤ-parts, sum-in-zero, sum-in-member, sum-in-put, put-there, put-elsewhere}
-use Rattle.engine.specs.Room.{crossing, Small, Kept}
-use Rattle.engine.specs.Reach.{marked}
-use Rattle.engine.specs.Raise.{Balanced, NoneShort, Splits, Raised, HeldOut}
-use Rattle.engine.proofs.Raising.{crossing-all}
-use Rattle.plan.specs.Limits.{widest-high, most-arcs}
+use Rattle.numbers.proofs.Sums.{sumℤ-parts, sum-in-zero}
+use Rattle.engine.specs.Room.{seen, crossing, Small, Kept}
+use Rattle.across.specs.Raise.{Balanced, NoneShort, Splits, Free, Still}
+use Rattle.across.proofs.Raising.{crossing-all, crossing-turned}
 use Rattle.plan.specs.Plan.{Plan, Set, WellFormed}
-use Rattle.plan.specs.Flow.{total, Flow, Smallest, held}
-use Rattle.plan.specs.Shortage.{leaves, enters, shortfall}
-use Rattle.plan.specs.Reason.{Separates, LowReason}
-use Rattle.plan.proofs.Cut.{has, lacks, shortfall-parts, flow-leaves-no-shortfall}
+use Rattle.plan.specs.Flow.{Flow}
+use Rattle.plan.specs.Shortage.{shortfall, Inside}
+use Rattle.plan.specs.Reason.{Separates, NarrowedEnd, EndReason}
+use Rattle.plan.proofs.Cut.{shortfall-parts, flow-leaves-no-shortfall}
+use Rattle.plan.proofs.Ends.{rest}
 use Rattle.plan.proofs.Hoffman.{hoffman}
-use Rattle.plan.proofs.Narrowing.{smallest-by-room, low-reason-by-room}
-use Rattle.stand.specs.State.{widths, Represents, Ready}
+use Rattle.plan.proofs.Narrowing.{smallest-by-room, low-reason-by-room, largest-by-room, high-reason-by-room}
+use Rattle.stand.specs.State.{Represents, Ready}
 
 -- the set of all nodes is short of nothing: no arc leaves or enters it, and the supplies sum to 0
 shortfall-all : (p : Plan) → WellFormed p → shortfall p (λ v. true) ≡ pos 0
@@ -90,80 +86,115 @@ module _ {p : Plan} {room : ℕ → ℕ → ℕ} {over under : ℕ → ℕ} (r :
     even = even-in-all w;
   }
 
--- ---- an arc that is raised
-
-module _ {p : Plan} (w : WellFormed p) {room : ℕ → ℕ → ℕ} {over under : ℕ → ℕ} (y : Ready p room over under) where
-  -- a plan in balance has a flow
-  pub ready-flow : (f : ℕ → ℕ) × Flow p f
-  ready-flow = hoffman p w .1 (λ S. omega (
-    whole,
-    balanced-account (y .represents) (y .balanced) S,
-    add (shortfall p S) (pos (crossing (p .nodes) room S)),
-  ))
-
-  module _ {room′ : ℕ → ℕ → ℕ} {over′ under′ : ℕ → ℕ} {a b width free : ℕ} {marks : List ℕ}
-      (r : Raised (p .nodes) room room′ over′ under′ a b width free marks) where
-    pub raised-represents : Represents p room′ over′ under′
-    raised-represents = record {
+  -- in balance again with the same room out of every set, the plan stands ready
+  pub still-ready : Balanced (p .nodes) over under → Small (p .nodes) room under → {room′ : ℕ → ℕ → ℕ} {over′ under′ : ℕ → ℕ}
+      → Still (p .nodes) room room′ → Balanced (p .nodes) over′ under′ → Ready p room′ over′ under′
+  still-ready b small {room′} {over′} {under′} still b′ = record {
+    represents = record {
       account = λ S. omega (
         whole,
-        balanced-account (y .represents) (y .balanced) S,
+        balanced-account b S,
+        still .across S,
         add (shortfall p S) (pos (crossing (p .nodes) room S)),
         add (shortfall p S) (pos (crossing (p .nodes) room′ S + sum-in (p .nodes) S under′)),
-        r .account S,
+        sum-in-zero (p .nodes) S over′ (λ v l e. b′ .none-over v l),
+        sum-in-zero (p .nodes) S under′ (λ v l e. b′ .none-under v l),
       );
-      pairs = λ x z lx lz ne. sym (r .pairs x z lx lz) ∙ y .represents .pairs x z lx lz ne;
-    }
+      pairs = λ x y lx ly ne. sym (still .pairs x y lx ly) ∙ r .pairs x y lx ly ne;
+    };
+    balanced = b′;
+    small = record {
+      pairs-small = λ x y lx ly ne. omega (arith, still .pairs x y lx ly, small .pairs-small x y lx ly ne);
+      under-small = omega (arith, sum-in-zero (p .nodes) (λ v. true) under′ (λ v l e. b′ .none-under v l));
+    };
+  }
 
-    pub raised-small : width ≤ widest-high → Small (p .nodes) room′ under′
-    raised-small fits = record {
-      pairs-small = λ x z lx lz ne. omega (arith, r .pairs x z lx lz, y .small .pairs-small x z lx lz ne);
-      under-small = omega (arith, r .under-less);
-    }
+-- a plan in balance has a flow
+pub ready-flow : {p : Plan} → WellFormed p → {room : ℕ → ℕ → ℕ} {over under : ℕ → ℕ} → Ready p room over under → (f : ℕ → ℕ) × Flow p f
+ready-flow {p} w {room} y = hoffman p w .1 (λ S. omega (
+  whole,
+  balanced-account (y .represents) (y .balanced) S,
+  add (shortfall p S) (pos (crossing (p .nodes) room S)),
+))
 
-  module _ (k : ℕ) (l : k < p .arcs) where
-    -- the room that the arc's count has below its high is what is free of its width
-    module _ {room′ : ℕ → ℕ → ℕ} {over′ under′ : ℕ → ℕ} {free : ℕ} {marks : List ℕ}
-        (r : Raised (p .nodes) room room′ over′ under′ (p .from k) (p .to k) (p .high k - p .low k) free marks) where
-      split : {S : Set} → Separates p k S → Splits (p .from k) (p .to k) S
-      split s = record { inside = s .from-inside; outside = s .to-outside }
+-- ---- the ends of an arc
 
-      separate : {S : Set} → Splits (p .from k) (p .to k) S → Separates p k S
-      separate s = record { from-inside = s .inside; to-outside = s .outside }
+-- what is free between an arc's ends, where each set is short of what its room out is below 0
+module _ (p : Plan) (k : ℕ) {width free : ℕ} {room : ℕ → ℕ → ℕ} {S : Set} (short : Set → ℤ)
+    (account : (R : Set) → short R +ℤ pos (crossing (p .nodes) room R) ≡ pos 0)
+    (m : Free (p .nodes) room (p .from k) (p .to k) width free S) where
+  split : {R : Set} → Separates p k R → Splits (p .from k) (p .to k) R
+  split s = record { inside = s .from-inside; outside = s .to-outside }
 
-      room-of-set : (S : Set) → shortfall p S +ℤ pos free ≡ pos 0 → crossing (p .nodes) room S ≡ free
-      room-of-set S e = omega (
+  left-free : (R : Set) → Separates p k R → (short R +ℤ pos free) ≤ℤ pos 0
+  left-free R s = omega (
+    whole,
+    account R,
+    add (short R) (pos free),
+    add (short R) (pos (crossing (p .nodes) room R)),
+    m .enough R (split s),
+  )
+
+  module _ (less : free < width) where
+    apart : Separates p k S
+    apart = record { from-inside = m .tight less .splits .inside; to-outside = m .tight less .splits .outside }
+
+    none-left : short S +ℤ pos free ≡ pos 0
+    none-left = omega (
+      whole,
+      account S,
+      m .tight less .across,
+      add (short S) (pos free),
+      add (short S) (pos (crossing (p .nodes) room S)),
+    )
+
+    least-such : (R : Set) → Separates p k R → short R +ℤ pos free ≡ pos 0 → Inside p S R
+    least-such R s e = record {
+      inside = m .tight less .least R (split s) (omega (
         whole,
         e,
-        balanced-account (y .represents) (y .balanced) S,
-        add (shortfall p S) (pos free),
-        add (shortfall p S) (pos (crossing (p .nodes) room S)),
-      )
+        account R,
+        add (short R) (pos free),
+        add (short R) (pos (crossing (p .nodes) room R)),
+      ));
+    }
 
-      set-of-room : (S : Set) → crossing (p .nodes) room S ≡ free → shortfall p S +ℤ pos free ≡ pos 0
-      set-of-room S e = omega (
-        whole,
-        balanced-account (y .represents) (y .balanced) S,
-        add (shortfall p S) (pos free),
-        add (shortfall p S) (pos (crossing (p .nodes) room S)),
-      )
+  all-or-tight : (free ≡ width) ⊎ ((R : Set) × Separates p k R × (short R +ℤ pos free ≡ pos 0))
+  all-or-tight = by-cases (decLt free width) (λ less. inr (S, apart less, none-left less)) (λ all. inl (omega (arith, m .fits)))
 
-      left-free : (S : Set) → Separates p k S → (shortfall p S +ℤ pos free) ≤ℤ pos 0
-      left-free S s = omega (
-        whole,
-        balanced-account (y .represents) (y .balanced) S,
-        add (shortfall p S) (pos free),
-        add (shortfall p S) (pos (crossing (p .nodes) room S)),
-        r .enough S (split s),
-      )
+-- the room that is free takes its low end down from its high, or its high end up from its low
+module _ {p : Plan} (w : WellFormed p) (rooms : List ℕ) {over under : ℕ → ℕ} (y : Ready p (seen rooms false) over under)
+    (k : ℕ) (l : k < p .arcs) where
+  outward : (R : Set) → shortfall p R +ℤ pos (crossing (p .nodes) (seen rooms false) R) ≡ pos 0
+  outward = balanced-account (y .represents) (y .balanced)
 
-      pub raised-smallest : Smallest p k (p .high k - free)
-      raised-smallest = smallest-by-room p w (ready-flow .0) (ready-flow .1) k l free left-free (r .free-fits)
-          (by-cases (decLt free (p .high k - p .low k))
-          (λ less. inr (marked marks, separate (r .tight less .splits), set-of-room (marked marks) (r .tight less .across)))
-          (λ all. inl (omega (arith, r .free-fits))))
+  inward : (R : Set) → shortfall p (rest R) +ℤ pos (crossing (p .nodes) (seen rooms true) R) ≡ pos 0
+  inward R = rw (crossing-turned (p .nodes) (seen rooms false) R) (balanced-account (y .represents) (y .balanced) (rest R))
 
-      pub raised-reason : free < p .high k - p .low k → LowReason p k (p .high k - free) (marked marks)
-      raised-reason less = low-reason-by-room p w (ready-flow .0) (ready-flow .1) k l free left-free less
-          (marked marks) (separate (r .tight less .splits)) (set-of-room (marked marks) (r .tight less .across))
-          (λ S s e. record { inside = r .tight less .least S (split s) (room-of-set S e) })
+  pub free-end : (upper : Bool) {free : ℕ} {S : Set} → Free (p .nodes) (seen rooms upper) (p .from k) (p .to k) (p .high k - p .low k) free S
+      → NarrowedEnd p k upper (cond upper (p .low k + free) (p .high k - free))
+  free-end false {free} m = smallest-by-room p w (ready-flow w y .0) (ready-flow w y .1) k l free
+      (left-free p k (shortfall p) outward m) (m .fits) (all-or-tight p k (shortfall p) outward m)
+  free-end true {free} m = largest-by-room p w (ready-flow w y .0) (ready-flow w y .1) k l free
+      (left-free p k (λ R. shortfall p (rest R)) inward m) (m .fits) (all-or-tight p k (λ R. shortfall p (rest R)) inward m)
+
+  -- where not all of the width is free, the set in the way is the reason
+  pub free-reason : (upper : Bool) {free : ℕ} {S : Set} → Free (p .nodes) (seen rooms upper) (p .from k) (p .to k) (p .high k - p .low k) free S
+      → free < p .high k - p .low k → EndReason p k upper (cond upper (p .low k + free) (p .high k - free)) S
+  free-reason false {free} {S} m less = low-reason-by-room p w (ready-flow w y .0) (ready-flow w y .1) k l free
+      (left-free p k (shortfall p) outward m) less S (apart p k (shortfall p) outward m less)
+      (none-left p k (shortfall p) outward m less) (least-such p k (shortfall p) outward m less)
+  free-reason true {free} {S} m less = high-reason-by-room p w (ready-flow w y .0) (ready-flow w y .1) k l free
+      (left-free p k (λ R. shortfall p (rest R)) inward m) less S (apart p k (λ R. shortfall p (rest R)) inward m less)
+      (none-left p k (λ R. shortfall p (rest R)) inward m less) (least-such p k (λ R. shortfall p (rest R)) inward m less)
+
+-- what is still one way is still the other way
+pub seen-still : (n : ℕ) (rooms rooms′ : List ℕ) (upper : Bool) → Still n (seen rooms upper) (seen rooms′ upper) → Still n (seen rooms false) (seen rooms′ false)
+seen-still n rooms rooms′ false still = still
+seen-still n rooms rooms′ true still = record {
+  across = λ S. sym (turned rooms S) ∙ still .across (rest S) ∙ turned rooms′ S;
+  pairs = λ x y lx ly. omega (arith, still .pairs x y lx ly);
+}
+  where
+    turned : (list : List ℕ) (S : Set) → crossing n (seen list true) (rest S) ≡ crossing n (seen list false) S
+    turned list S = sym (crossing-turned n (seen list true) S)

@@ -1,25 +1,42 @@
 // The first flow, arc by arc: each arc gets its smallest count once the arcs before it are held at
-// theirs, and is held there. Internal.
+// theirs, and is held there. One arc may be held at a count from the start. Internal.
 use crate::build::arc_at;
+use crate::counts::end_of;
 use crate::counts::hold_at;
-use crate::counts::smallest;
 use plan::Arc;
 ghost use mathlib.Core.Path.{_≡_};
 ghost use mathlib.Core.Bool.{false};
 ghost use Prim.Native.Nat.{ℕ, _≤_, _<_, _/_};
+ghost use mathlib.Core.List.{List};
+ghost use lib.IntN.{ℤ};
 ghost use lib.ListN.{length};
+ghost use Rattle.numbers.specs.Sums.{put};
 ghost use Rattle.engine.specs.Room.{at, seen, Lent};
 ghost use Rattle.engine.specs.Searched.{Desk};
 ghost use Rattle.plan.specs.Limits.{arc-entries};
-ghost use Rattle.plan.specs.Plan.{WellFormed, plan-of};
+ghost use Rattle.plan.specs.Plan.{Plan, WellFormed, plan-of};
 ghost use Rattle.plan.specs.Flow.{FirstFlow, Smallest, held};
 ghost use Rattle.plan.proofs.First.{fixed};
-ghost use Rattle.stand.specs.State.{Ready};
+ghost use Rattle.stand.specs.State.{Listed, Ready, Fixing};
+
+// Arc i of a list of arcs; the range of arc k is a count alone.
+fn arc_held_at(arcs: &[u32], k: usize, count: u32, i: usize) -> Arc
+    requires { ⌜ i < length (now arcs) / arc-entries ⌝ }
+    ensures { λ r. ⌜ ((supplies : List ℤ) → r ≡ record { from = plan-of (now (arcs .entry)) supplies .from i; to = plan-of (now (arcs .entry)) supplies .to i; low = put (plan-of (now (arcs .entry)) supplies .low) k count i; high = put (plan-of (now (arcs .entry)) supplies .high) k count i }) ⌝ }
+{
+    let arc = arc_at(arcs, i);
+    if i == k {
+        return Arc::new(arc.from, arc.to, count, count);
+    }
+    arc
+}
 
 // The smallest count of arc i, where the arcs before it are held; arc i is held there too.
 fn fix(
     arcs: &[u32],
     supplies: &[i32],
+    k: usize,
+    count: u32,
     i: usize,
     rooms: &mut [u32],
     over: &mut [u32],
@@ -31,15 +48,16 @@ fn fix(
     requires lent { ⌜ Lent (length (now supplies)) (now rooms) (now over) (now under) ⌝ }
     requires desk { ⌜ Desk (length (now supplies)) (now marks) (now order) (now finder) ⌝ }
     requires arc { ⌜ i < length (now arcs) / arc-entries ⌝ }
-    requires ready { ⌜ ((f : ℕ → ℕ) × (WellFormed (fixed (plan-of (now arcs) (now supplies)) f i) × Ready (fixed (plan-of (now arcs) (now supplies)) f i) (seen (now rooms) false) (at (now over)) (at (now under)))) ⌝ }
-    ensures { λ r. ⌜ ((f : ℕ → ℕ) → WellFormed (fixed (plan-of (now (arcs .entry)) (now (supplies .entry))) f i) → Ready (fixed (plan-of (now (arcs .entry)) (now (supplies .entry))) f i) (seen (now (rooms .entry)) false) (at (now (over .entry))) (at (now (under .entry))) → Smallest (fixed (plan-of (now (arcs .entry)) (now (supplies .entry))) f i) i r × Ready (held (fixed (plan-of (now (arcs .entry)) (now (supplies .entry))) f i) i r) (seen (now (rooms .exit)) false) (at (now (over .exit))) (at (now (under .exit)))) ⌝ }
+    requires ready { ⌜ ((p : Plan) × ((f : ℕ → ℕ) × Fixing (now arcs) (now supplies) k count i p f (seen (now rooms) false) (at (now over)) (at (now under)))) ⌝ }
+    ensures { λ r. ⌜ ((p : Plan) (f : ℕ → ℕ) → Fixing (now (arcs .entry)) (now (supplies .entry)) k count i p f (seen (now (rooms .entry)) false) (at (now (over .entry))) (at (now (under .entry))) → Smallest (fixed p f i) i r × Ready (held (fixed p f i) i r) (seen (now (rooms .exit)) false) (at (now (over .exit))) (at (now (under .exit)))) ⌝ }
 {
-    let arc = arc_at(arcs, i);
+    let arc = arc_held_at(arcs, k, count, i);
     let n = supplies.len();
     let from = arc.from as usize;
     let to = arc.to as usize;
-    let least = smallest(
+    let least = end_of(
         rooms,
+        false,
         over,
         under,
         n,
@@ -68,10 +86,13 @@ fn fix(
     least
 }
 
-// Writes the first flow of a plan that has a flow; entries at or past the arc count stay.
+// Writes the first flow of a plan that has a flow, with arc k held at a count, or none where k is no arc;
+// entries at or past the arc count stay.
 pub fn first_flow(
     arcs: &[u32],
     supplies: &[i32],
+    k: usize,
+    count: u32,
     counts: &mut [u32],
     rooms: &mut [u32],
     over: &mut [u32],
@@ -80,18 +101,29 @@ pub fn first_flow(
     order: &mut [usize],
     finder: &mut [usize],
 )
-    requires plan { ⌜ WellFormed (plan-of (now arcs) (now supplies)) ⌝ }
     requires lent { ⌜ Lent (length (now supplies)) (now rooms) (now over) (now under) ⌝ }
     requires desk { ⌜ Desk (length (now supplies)) (now marks) (now order) (now finder) ⌝ }
     requires whole { ⌜ length (now arcs) / arc-entries ≤ length (now counts) ⌝ }
-    requires ready { ⌜ Ready (plan-of (now arcs) (now supplies)) (seen (now rooms) false) (at (now over)) (at (now under)) ⌝ }
-    ensures first { λ r. ⌜ FirstFlow (plan-of (now (arcs .entry)) (now (supplies .entry))) (at (now (counts .exit))) ⌝ }
+    requires ready { ⌜ ((p : Plan) × (Listed (now arcs) (now supplies) k count p × WellFormed p × Ready p (seen (now rooms) false) (at (now over)) (at (now under)))) ⌝ }
+    ensures first { λ r. ⌜ ((p : Plan) → Listed (now (arcs .entry)) (now (supplies .entry)) k count p → WellFormed p → Ready p (seen (now (rooms .entry)) false) (at (now (over .entry))) (at (now (under .entry))) → FirstFlow p (at (now (counts .exit)))) ⌝ }
     ensures past { λ r. ⌜ ((j : ℕ) → length (now (arcs .entry)) / arc-entries ≤ j → at (now (counts .exit)) j ≡ at (now (counts .entry)) j) ⌝ }
 {
-    let count = arcs.len() / Arc::ENTRIES;
+    let total = arcs.len() / Arc::ENTRIES;
     let mut i = 0;
-    while i < count {
-        counts[i] = fix(arcs, supplies, i, rooms, over, under, marks, order, finder);
+    while i < total {
+        counts[i] = fix(
+            arcs,
+            supplies,
+            k,
+            count,
+            i,
+            rooms,
+            over,
+            under,
+            marks,
+            order,
+            finder,
+        );
         i += 1;
     }
 }

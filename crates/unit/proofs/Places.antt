@@ -8,10 +8,10 @@ use lib.Dec.{ltb, eqb}
 use borrow.Author.Tests.{ltb-false}
 use Rattle.plan.specs.Limits.{most-nodes, most-arcs}
 use Rattle.plan.specs.Plan.{Plan}
-use Rattle.plan.specs.Verdict.{lowest, verdict, sum-wrong, limit-rules, network-rules}
+use Rattle.plan.specs.Verdict.{lowest, verdict, sum-wrong, limit-rules, network-rules, lent-short}
 use Rattle.plan.specs.declared.Verdict.{Verdict}
 use Rattle.plan.specs.declared.Verdict.the-variants.{Accepted, Refused}
-use Rattle.flow.specs.Answer.{FlowAnswers, lent-short}
+use Rattle.flow.specs.Answer.{FlowAnswers}
 use Rattle.flow.specs.declared.Answer.the-variants.{Refused as TurnedDown}
 
 -- a verdict's place, if it has one, is an arc or a node of a plan within the limits
@@ -57,4 +57,4 @@ network-small p short =
 -- the place of a refusal by the flow question
 pub refused-small : {p : Plan} {arcs nodes arcs′ nodes′ : List ℕ} {n i : ℕ}
     → FlowAnswers p arcs nodes arcs′ nodes′ (TurnedDown n i) → i < most-arcs
-refused-small {p} {arcs} {nodes} answered = rw (answered .says .0) at (network-small p (lent-short p arcs nodes))
+refused-small {p} {arcs} {nodes} answered = rw (answered .says .0) at (network-small p (lent-short arcs (p .arcs) nodes (p .nodes)))

@@ -2,7 +2,8 @@
 use borrow.Author.Needs.{needs}
 use Rattle.engine.specs.Reach.{marked}
 use Rattle.plan.specs.Plan.{plan-of}
-use Rattle.flow.proofs.Marking.{written-alike, low-marks-before}
+use Rattle.stand.proofs.Writing.{written-alike}
+use Rattle.flow.proofs.Marking.{low-marks-before}
 use Rattle.flow.proofs.marks.mark_arcs.Statement.{statement}
 use Rattle.flow.proofs.marks.mark_arcs.Tie as tie
 

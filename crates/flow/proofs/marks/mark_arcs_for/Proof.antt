@@ -1,28 +1,27 @@
 -- The loop writes one entry a turn: below j the entries are the marks of the arcs, and from j on they are as they were.
 use Prim.Native.Nat.{_-_, _/_, _≤_}
-use mathlib.Core.Bool.{cond}
 use mathlib.Core.Path.{_≡_}
 use lib.ListN.{length}
 use native.Mathlib.Omega.{arith}
 use borrow.Author.Needs.{needs}
 use Rattle.engine.specs.Reach.{marked}
-use Rattle.plan.specs.Reason.{low-marks, high-marks}
+use Rattle.plan.specs.Reason.{end-marks}
 use Rattle.plan.specs.Plan.{plan-of}
 use Rattle.plan.specs.Limits.{arc-entries}
-use Rattle.flow.proofs.Marking.{Writing, writing-begins, writing-on}
+use Rattle.stand.proofs.Writing.{Writing, filled-begins, writing-on, written}
 use Rattle.flow.proofs.marks.mark_arcs_for.Statement.{statement}
 use Rattle.flow.proofs.marks.mark_arcs_for.Tie as tie
 
 abbrev Inv-loop : tie.InvT-loop
 Inv-loop arcs supplies marks k upper buffer₀ count j₀ buffer j =
     (j ≤ length arcs / arc-entries)
-    × Writing (λ i. cond upper (high-marks (plan-of arcs supplies) k (marked marks) i) (low-marks (plan-of arcs supplies) k (marked marks) i)) j buffer₀ buffer
+    × Writing (end-marks (plan-of arcs supplies) k upper (marked marks)) j buffer₀ buffer
 
 abbrev μ-loop : tie.MeasureT-loop
 μ-loop arcs supplies marks k upper buffer₀ count j₀ buffer j = length arcs / arc-entries - j
 
 loop-holds : tie.Need-loop-holds Inv-loop μ-loop
-loop-holds c = (omega arith, writing-begins)
+loop-holds c = (omega arith, filled-begins)
 
 mark-of-requires : tie.Need-mark-of-requires Inv-loop μ-loop
 mark-of-requires c κs = search needs
@@ -48,7 +47,7 @@ same-length c = c .before .loop .inv .1 .same-length
 returns : tie.Need-returns Inv-loop μ-loop
 returns c =
     let full : c .before .loop .j ≡ length (c .before .before .before .before .before .args .arcs .now) / arc-entries = omega arith in
-    rw full at (c .before .loop .inv .1 .written)
+    rw full at (written (c .before .loop .inv .1))
 
 pub mark-arcs-for-spec : {M : Type 1} → statement M
 mark-arcs-for-spec =

@@ -4,7 +4,7 @@ use mathlib.Core.Path.{_≡_, refl}
 use native.Mathlib.Omega.{arith}
 use borrow.Author.Needs.{needs}
 use Rattle.engine.specs.Room.{at}
-use Rattle.flow.proofs.Marking.{Writing, writing-begins, writing-on}
+use Rattle.stand.proofs.Writing.{Writing, filled-begins, writing-on, written}
 use Rattle.flow.proofs.marks.mark_nodes.Statement.{statement}
 use Rattle.flow.proofs.marks.mark_nodes.Tie as tie
 
@@ -15,7 +15,7 @@ abbrev μ-loop : tie.MeasureT-loop
 μ-loop marks n buffer₀ v₀ buffer v = n - v
 
 loop-holds : tie.Need-loop-holds Inv-loop μ-loop
-loop-holds c = (omega arith, writing-begins)
+loop-holds c = (omega arith, filled-begins)
 
 shared-slice-read-buffer : tie.Need-shared-slice-read-buffer Inv-loop μ-loop
 shared-slice-read-buffer c = search needs
@@ -38,7 +38,7 @@ same-length c = c .before .loop .inv .1 .same-length
 returns : tie.Need-returns Inv-loop μ-loop
 returns c =
     let full : c .before .loop .v ≡ c .before .before .args .n = omega arith in
-    rw full at (c .before .loop .inv .1 .written)
+    rw full at (written (c .before .loop .inv .1))
 
 pub mark-nodes-spec : {M : Type 1} → statement M
 mark-nodes-spec =

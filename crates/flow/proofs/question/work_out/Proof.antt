@@ -1,5 +1,5 @@
 -- A new desk is long enough for 64 nodes and holds zeros.
-use Rattle.flow.proofs.Accepting.{zeros}
+use Rattle.stand.proofs.Asking.{zeros}
 use lib.Dec.{lit≤}
 use borrow.Author.Needs.{needs}
 use Rattle.flow.proofs.question.work_out.Statement.{statement}

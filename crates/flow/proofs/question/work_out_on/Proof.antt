@@ -1,7 +1,10 @@
 -- Balanced, the first flow is written; otherwise the marks of the shortage set and of what it cites.
+use mathlib.Core.Path.{refl}
 use mir.Facts.{toZ-ofZ}
 use mir.Syntax.{w64}
 use Rattle.flow.proofs.Marking.{marked-lacking}
+use Rattle.plan.specs.Plan.{plan-of}
+use Rattle.stand.proofs.Firsts.{listed-whole}
 use Rattle.engine.proofs.Sweeping.{lent-still, desk-still}
 use native.Mathlib.Omega.{arith}
 use borrow.Author.Needs.{needs}
@@ -19,13 +22,14 @@ enum-told c = search needs
 
 first-flow-requires : tie.Need-first-flow-requires
 first-flow-requires c κs =
-    let pre = c .before .before .before .before .before .before .before .before .before .before .before .before .before .before .before .before .before .before .before .before .before .before .before .before .before .before .before .before .before .before .before .before .before .before .before .before .before .pre in (
-      pre .0,
+    let pre = c .before .before .before .before .before .before .before .before .before .before .before .before .before .before .before .before .before .before .before .before .before .before .before .before .before .before .before .before .before .before .before .before .before .before .before .before .before .pre in
+    let k = c .before .before .before .before .before .before .before .before .before .before .before .before .before .before .before .before .before .before .before .before .before .ask .kept in (
+      lent-still (record { first-length = k .1 .1 .0; second-length = k .1 .1 .1 .0; third-length = k .1 .1 .1 .1 .0 }) (pre .1 .1 .0),
       (
-        lent-still (record { first-length = c .before .before .before .before .before .before .before .before .before .before .before .before .before .before .before .before .before .before .before .before .before .ask .kept .1 .1 .0; second-length = c .before .before .before .before .before .before .before .before .before .before .before .before .before .before .before .before .before .before .before .before .before .ask .kept .1 .1 .1 .0; third-length = c .before .before .before .before .before .before .before .before .before .before .before .before .before .before .before .before .before .before .before .before .before .ask .kept .1 .1 .1 .1 .0 }) (pre .1 .1 .0),
+        desk-still (record { first-length = k .1 .1 .1 .1 .1 .0; second-length = k .1 .1 .1 .1 .1 .1 .0; third-length = k .1 .1 .1 .1 .1 .1 .1 .0 }) (pre .1 .1 .1 .1),
         (
-          desk-still (record { first-length = c .before .before .before .before .before .before .before .before .before .before .before .before .before .before .before .before .before .before .before .before .before .ask .kept .1 .1 .1 .1 .1 .0; second-length = c .before .before .before .before .before .before .before .before .before .before .before .before .before .before .before .before .before .before .before .before .before .ask .kept .1 .1 .1 .1 .1 .1 .0; third-length = c .before .before .before .before .before .before .before .before .before .before .before .before .before .before .before .before .before .before .before .before .before .ask .kept .1 .1 .1 .1 .1 .1 .1 .0 }) (pre .1 .1 .1 .1),
-          (pre .1 .0 .0, rw (c .before .before .before .before .before .before .before .enum-told .given .1) at (c .before .before .before .before .before .before .before .before .before .before .before .before .before .before .before .before .before .before .before .before .before .ask .ensures)),
+          pre .1 .0 .0,
+          (plan-of (c .before .before .before .before .before .before .before .before .before .before .before .before .before .before .before .before .before .before .before .before .before .before .before .before .before .before .before .before .before .before .before .before .before .before .before .before .before .args .arcs .now) (c .before .before .before .before .before .before .before .before .before .before .before .before .before .before .before .before .before .before .before .before .before .before .before .before .before .before .before .before .before .before .before .before .before .before .before .before .before .args .supplies .now), (listed-whole (c .before .before .before .before .before .before .before .before .before .before .before .before .before .before .before .before .before .before .before .before .before .before .before .before .before .before .before .before .before .before .before .before .before .before .before .before .before .args .arcs .now) (c .before .before .before .before .before .before .before .before .before .before .before .before .before .before .before .before .before .before .before .before .before .before .before .before .before .before .before .before .before .before .before .before .before .before .before .before .before .args .supplies .now) 0, pre .0, c .before .before .before .before .before .before .before .before .before .before .before .before .before .before .before .before .before .before .before .before .before .ask .ensures .balances (c .before .before .before .before .before .before .before .enum-told .given .1))),
         ),
       ),
     )
@@ -52,7 +56,16 @@ same-length-7 : tie.Need-same-length-7
 same-length-7 c = search needs
 
 returns : tie.Need-returns
-returns c = search needs
+returns c =
+    let f = c .before .before .before .before .before .before .before .before .before .before .before .before .before .before .first-flow .ensures in
+    let arcs = c .before .before .before .before .before .before .before .before .before .before .before .before .before .before .before .before .before .before .before .before .before .before .before .before .before .before .before .before .before .before .before .before .before .before .before .before .before .before .before .before .before .before .before .before .before .before .before .before .before .before .before .before .args .arcs .now in
+    let supplies = c .before .before .before .before .before .before .before .before .before .before .before .before .before .before .before .before .before .before .before .before .before .before .before .before .before .before .before .before .before .before .before .before .before .before .before .before .before .before .before .before .before .before .before .before .before .before .before .before .before .before .before .before .args .supplies .now in (
+      record {
+        first = f .0 (plan-of arcs supplies) (listed-whole arcs supplies 0) (c .before .before .before .before .before .before .before .before .before .before .before .before .before .before .before .before .before .before .before .before .before .before .before .before .before .before .before .before .before .before .before .before .before .before .before .before .before .before .before .before .before .before .before .before .before .before .before .before .before .before .before .before .pre .0) (c .before .before .before .before .before .before .before .before .before .before .before .before .before .before .before .before .before .before .before .before .before .before .before .before .before .before .before .before .before .before .before .before .before .before .before .before .ask .ensures .balances (c .before .before .before .before .before .before .before .before .before .before .before .before .before .before .before .before .before .before .before .before .before .before .enum-told .given .1));
+        past = f .1;
+      },
+      refl,
+    )
 
 mark-nodes-requires : tie.Need-mark-nodes-requires
 mark-nodes-requires c κs = (omega (arith, c .before .before .before .before .before .before .before .before .before .before .before .before .before .before .before .before .before .ask .kept .1 .1 .1 .1 .1 .0, c .before .before .before .before .before .before .before .before .before .before .before .before .before .before .before .before .before .before .before .before .before .before .before .before .before .before .before .before .before .before .before .before .before .pre .1 .1 .1 .1 .marks-whole), c .before .before .before .before .before .before .before .before .before .before .before .before .before .before .before .before .before .before .before .before .before .before .before .before .before .before .before .before .before .before .before .before .before .pre .1 .0 .1)
@@ -87,7 +100,7 @@ same-length-15 c = search needs
 returns-2 : tie.Need-returns-2
 returns-2 c =
     rw (toZ-ofZ {w = w64} {z = c .before .before .before .before .before .before .before .before .before .before .before .asked .given .0 .0} (record { sfits = c .before .before .before .before .before .before .before .before .before .before .known-told .given .0 .1 }))
-    (marked-lacking (rw (c .before .before .before .before .before .before .before .before .before .before .before .asked .given .1) at (c .before .before .before .before .before .before .before .before .before .before .before .before .before .before .before .before .before .before .before .before .before .before .before .before .before .ask .ensures)) (c .before .before .before .before .before .before .before .mark-nodes .ensures) (c .before .before .mark-arcs .ensures))
+    (marked-lacking (c .before .before .before .before .before .before .before .before .before .before .before .before .before .before .before .before .before .before .before .before .before .before .before .before .before .ask .ensures .lacks (c .before .before .before .before .before .before .before .before .before .before .before .asked .given .0 .0) (c .before .before .before .before .before .before .before .before .before .before .before .asked .given .1)) (c .before .before .before .before .before .before .before .mark-nodes .ensures) (c .before .before .mark-arcs .ensures))
 
 pub work-out-on-spec : {M : Type 1} → statement M
 work-out-on-spec =

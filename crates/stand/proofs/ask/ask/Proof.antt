@@ -4,7 +4,7 @@ use mir.Val.{ofZ}
 use mir.Syntax.{w64}
 use native.Mathlib.Nat.{pos-of-ne-zero}
 use mathlib.Core.Path.{ap, sym, _∙_}
-use Rattle.stand.proofs.Asking.{asked-ready, asked-short}
+use Rattle.stand.proofs.Asking.{asked-ready, asked-short, told-ready, told-short}
 use Rattle.engine.proofs.Sweeping.{lent-still}
 use native.Mathlib.Omega.{arith}
 use borrow.Author.Needs.{needs}
@@ -41,7 +41,7 @@ same-length-6 c = search needs
 returns : tie.Need-returns
 returns c =
     let bits = ap (ofZ w64) (c .before .total-of .ensures) in
-    asked-ready (c .before .before .before .before .before .before .before .before .before .before .before .before .before .before .before .before .before .before .before .before .before .before .before .before .before .before .before .before .before .before .before .before .before .before .before .before .before .before .before .pre .0) (c .before .before .before .before .before .before .before .before .before .before .before .before .before .before .before .before .before .before .before .before .before .before .before .before .before .before .before .before .build .ensures .0) (c .before .before .before .before .before .before .before .before .before .before .before .before .before .before .before .settle .ensures) (c .before .before .before .before .before .before .before .before .before .before .before .before .before .before .before .before .before .before .before .before .before .before .before .before .before .before .before .before .build .ensures .1) (sym bits ∙ c .if1 .taken)
+    told-ready (asked-ready (c .before .before .before .before .before .before .before .before .before .before .before .before .before .before .before .before .before .before .before .before .before .before .before .before .before .before .before .before .before .before .before .before .before .before .before .before .before .before .before .pre .0) (c .before .before .before .before .before .before .before .before .before .before .before .before .before .before .before .before .before .before .before .before .before .before .before .before .before .before .before .before .build .ensures .0) (c .before .before .before .before .before .before .before .before .before .before .before .before .before .before .before .settle .ensures) (c .before .before .before .before .before .before .before .before .before .before .before .before .before .before .before .before .before .before .before .before .before .before .before .before .before .before .before .before .build .ensures .1) (sym bits ∙ c .if1 .taken))
 
 same-length-7 : tie.Need-same-length-7
 same-length-7 c = search needs
@@ -65,7 +65,7 @@ returns-2 : tie.Need-returns-2
 returns-2 c =
     let bits = ap (ofZ w64) (c .before .total-of .ensures) in
     rw (toZ-ofZ {w = w64} {z = c .before .total-of .result} (record { sfits = c .before .total-of .ok }), c .before .total-of .ensures)
-    (asked-short (c .before .before .before .before .before .before .before .before .before .before .before .before .before .before .before .before .before .before .before .before .before .before .before .before .before .before .before .before .before .before .before .before .before .before .before .before .before .before .before .pre .0) (c .before .before .before .before .before .before .before .before .before .before .before .before .before .before .before .before .before .before .before .before .before .before .before .before .before .before .before .before .build .ensures .0) (c .before .before .before .before .before .before .before .before .before .before .before .before .before .before .before .settle .ensures) (pos-of-ne-zero (λ e. c .if1 .left (bits ∙ e))))
+    (told-short (asked-short (c .before .before .before .before .before .before .before .before .before .before .before .before .before .before .before .before .before .before .before .before .before .before .before .before .before .before .before .before .before .before .before .before .before .before .before .before .before .before .before .pre .0) (c .before .before .before .before .before .before .before .before .before .before .before .before .before .before .before .before .before .before .before .before .before .before .before .before .before .before .before .before .build .ensures .0) (c .before .before .before .before .before .before .before .before .before .before .before .before .before .before .before .settle .ensures) (pos-of-ne-zero (λ e. c .if1 .left (bits ∙ e)))))
 
 pub ask-spec : {M : Type 1} → statement M
 ask-spec =

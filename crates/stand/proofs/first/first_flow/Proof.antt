@@ -1,6 +1,7 @@
 -- The arcs before i are held at the counts written so far, and the plan with them held stands ready.
+use Rattle.stand.specs.State.{Listed, Ready}
 use Rattle.stand.proofs.Firsts.{FirstSoFar, first-begins, first-well-formed, first-goes-on, first-ends}
-use Rattle.plan.specs.Plan.{plan-of}
+use Rattle.plan.specs.Plan.{Plan, WellFormed}
 use Rattle.plan.specs.Limits.{arc-entries}
 use Rattle.engine.proofs.Sweeping.{lent-still, desk-still}
 use Rattle.engine.specs.Room.{at, seen, SameLengths}
@@ -14,13 +15,14 @@ use Rattle.stand.proofs.first.first_flow.Statement.{statement}
 use Rattle.stand.proofs.first.first_flow.Tie as tie
 
 abbrev Inv-loop : tie.InvT-loop
-Inv-loop arcs supplies counts₀ rooms₀ over₀ under₀ marks₀ order₀ finder₀ count i₀ counts rooms over under marks order finder i =
+Inv-loop arcs supplies k count counts₀ rooms₀ over₀ under₀ marks₀ order₀ finder₀ total i₀ counts rooms over under marks order finder i =
     (i ≤ length arcs / arc-entries) × (length counts ≡ length counts₀)
     × SameLengths rooms₀ over₀ under₀ rooms over under × SameLengths marks₀ order₀ finder₀ marks order finder
-    × FirstSoFar (plan-of arcs supplies) counts₀ counts i (seen rooms false) (at over) (at under)
+    × ((p : Plan) → Listed arcs supplies k count p → WellFormed p → Ready p (seen rooms₀ false) (at over₀) (at under₀)
+    → FirstSoFar p counts₀ counts i (seen rooms false) (at over) (at under))
 
 abbrev μ-loop : tie.MeasureT-loop
-μ-loop arcs supplies counts₀ rooms₀ over₀ under₀ marks₀ order₀ finder₀ count i₀ counts rooms over under marks order finder i = length arcs / arc-entries - i
+μ-loop arcs supplies k count counts₀ rooms₀ over₀ under₀ marks₀ order₀ finder₀ total i₀ counts rooms over under marks order finder i = length arcs / arc-entries - i
 
 loop-holds : tie.Need-loop-holds Inv-loop μ-loop
 loop-holds c = (
@@ -28,19 +30,21 @@ loop-holds c = (
   refl,
   record { first-length = refl; second-length = refl; third-length = refl },
   record { first-length = refl; second-length = refl; third-length = refl },
-  first-begins (c .before .before .before .before .before .before .before .before .pre .1 .1 .1 .1),
+  λ p listed w y. first-begins y,
 )
 
 fix-requires : tie.Need-fix-requires Inv-loop μ-loop
 fix-requires c κs =
     let pre = c .before .before .before .before .before .before .before .before .before .before .before .before .before .before .before .before .pre in
-    let inv = c .before .before .before .before .before .before .before .loop .inv in (
-      lent-still (inv .2) (pre .1 .0),
+    let inv = c .before .before .before .before .before .before .before .loop .inv in
+    let (p, x) = pre .1 .1 .1 in
+    let so-far = inv .4 p (x .0) (x .1) (x .2) in (
+      lent-still (inv .2) (pre .0),
       (
-        desk-still (inv .3) (pre .1 .1 .0),
+        desk-still (inv .3) (pre .1 .0),
         (
           c .before .before .before .before .before .before .loop-test .taken,
-          (at (c .before .before .before .before .before .before .before .loop .counts), (first-well-formed (pre .0) (inv .0) (inv .4), inv .4 .ready)),
+          (p, (at (c .before .before .before .before .before .before .before .loop .counts), record { listed = x .0; well-formed = first-well-formed (x .1) (omega (arith, inv .0, x .0 .arcs-are)) so-far; ready = so-far .ready })),
         ),
       ),
     )
@@ -49,7 +53,7 @@ mul-counts : tie.Need-mul-counts Inv-loop μ-loop
 mul-counts c = search needs
 
 slice-write-counts : tie.Need-slice-write-counts Inv-loop μ-loop
-slice-write-counts c = omega (arith, c .before .before .before .before .before .before .before .before .before .before .before .before .before .before .before .before .before .before .before .before .loop .inv .1, c .before .before .before .before .before .before .before .before .before .before .before .before .before .before .before .before .before .before .before .before .before .before .before .before .before .before .before .before .before .pre .1 .1 .1 .0)
+slice-write-counts c = omega (arith, c .before .before .before .before .before .before .before .before .before .before .before .before .before .before .before .before .before .before .before .before .loop .inv .1, c .before .before .before .before .before .before .before .before .before .before .before .before .before .before .before .before .before .before .before .before .before .before .before .before .before .before .before .before .before .pre .1 .1 .0)
 
 add-i : tie.Need-add-i Inv-loop μ-loop
 add-i c = search needs
@@ -61,12 +65,16 @@ loop-again : tie.Need-loop-again Inv-loop μ-loop
 loop-again c =
     let pre = c .before .before .before .before .before .before .before .before .before .before .before .before .before .before .before .before .before .before .before .before .before .before .before .before .before .before .before .before .before .pre in
     let inv = c .before .before .before .before .before .before .before .before .before .before .before .before .before .before .before .before .before .before .before .before .loop .inv in
-    let found = c .before .before .before .before .before .before .before .before .before .before .before .before .fix .ensures (at (c .before .before .before .before .before .before .before .before .before .before .before .before .before .before .before .before .before .before .before .before .loop .counts)) (first-well-formed (pre .0) (inv .0) (inv .4)) (inv .4 .ready) in (
+    let k = c .before .before .before .before .before .before .before .before .before .before .before .before .fix .kept in (
       omega arith,
       length-set (c .before .before .before .before .before .before .before .before .before .before .before .before .before .before .before .before .before .before .before .before .loop .counts) (c .before .before .before .before .before .before .before .before .before .before .before .before .before .before .before .before .before .before .before .before .loop .i) (c .before .before .before .before .before .before .before .before .before .before .before .before .fix .result) ∙ inv .1,
-      record { first-length = c .before .before .before .before .before .before .before .before .before .before .before .before .fix .kept .1 .1 .1 .0 ∙ inv .2 .first-length; second-length = c .before .before .before .before .before .before .before .before .before .before .before .before .fix .kept .1 .1 .1 .1 .0 ∙ inv .2 .second-length; third-length = c .before .before .before .before .before .before .before .before .before .before .before .before .fix .kept .1 .1 .1 .1 .1 .0 ∙ inv .2 .third-length },
-      record { first-length = c .before .before .before .before .before .before .before .before .before .before .before .before .fix .kept .1 .1 .1 .1 .1 .1 .0 ∙ inv .3 .first-length; second-length = c .before .before .before .before .before .before .before .before .before .before .before .before .fix .kept .1 .1 .1 .1 .1 .1 .1 .0 ∙ inv .3 .second-length; third-length = c .before .before .before .before .before .before .before .before .before .before .before .before .fix .kept .1 .1 .1 .1 .1 .1 .1 .1 .0 ∙ inv .3 .third-length },
-      first-goes-on (pre .0) (inv .0) (inv .4) (c .before .before .before .before .before .before .before .before .before .before .before .before .fix .result) (omega (arith, inv .1, pre .1 .1 .1 .0)) (found .0) (found .1),
+      record { first-length = k .1 .1 .1 .1 .1 .0 ∙ inv .2 .first-length; second-length = k .1 .1 .1 .1 .1 .1 .0 ∙ inv .2 .second-length; third-length = k .1 .1 .1 .1 .1 .1 .1 .0 ∙ inv .2 .third-length },
+      record { first-length = k .1 .1 .1 .1 .1 .1 .1 .1 .0 ∙ inv .3 .first-length; second-length = k .1 .1 .1 .1 .1 .1 .1 .1 .1 .0 ∙ inv .3 .second-length; third-length = k .1 .1 .1 .1 .1 .1 .1 .1 .1 .1 .0 ∙ inv .3 .third-length },
+      λ p listed w y.
+          let so-far = inv .4 p listed w y in
+          let few : c .before .before .before .before .before .before .before .before .before .before .before .before .before .before .before .before .before .before .before .before .loop .i ≤ p .arcs = omega (arith, inv .0, listed .arcs-are) in
+          let found = c .before .before .before .before .before .before .before .before .before .before .before .before .fix .ensures p (at (c .before .before .before .before .before .before .before .before .before .before .before .before .before .before .before .before .before .before .before .before .loop .counts)) (record { listed = listed; well-formed = first-well-formed w few so-far; ready = so-far .ready }) in
+          first-goes-on w few so-far (c .before .before .before .before .before .before .before .before .before .before .before .before .fix .result) (omega (arith, inv .1, pre .1 .1 .0)) (found .0) (found .1),
     )
 
 same-length : tie.Need-same-length Inv-loop μ-loop
@@ -92,9 +100,12 @@ same-length-7 c = c .before .loop .inv .3 .third-length
 
 returns : tie.Need-returns Inv-loop μ-loop
 returns c =
-    let inv = c .before .loop .inv in
-    let all : c .before .loop .i ≡ length (c .before .before .before .before .before .before .before .before .before .before .args .arcs .now) / arc-entries = omega arith in
-    (first-ends (c .before .before .before .before .before .before .before .before .before .before .pre .0) all (inv .4), λ j l. inv .4 .past j (omega arith))
+    let inv = c .before .loop .inv in (
+      λ p listed w y. first-ends w (omega (arith, listed .arcs-are)) (inv .4 p listed w y),
+      λ j l.
+          let (p, x) = c .before .before .before .before .before .before .before .before .before .before .pre .1 .1 .1 in
+          inv .4 p (x .0) (x .1) (x .2) .past j (omega arith),
+    )
 
 pub first-flow-spec : {M : Type 1} → statement M
 first-flow-spec =

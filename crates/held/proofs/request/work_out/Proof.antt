@@ -1,0 +1,63 @@
+-- A new desk is long enough for 64 nodes and holds zeros.
+use lib.Dec.{lit≤}
+use Rattle.stand.proofs.Asking.{zeros}
+use borrow.Author.Needs.{needs}
+use Rattle.held.proofs.request.work_out.Statement.{statement}
+use Rattle.held.proofs.request.work_out.Tie as tie
+
+slice-aggregate-work-out-on : tie.Need-slice-aggregate-work-out-on
+slice-aggregate-work-out-on c = search needs
+
+slice-aggregate-work-out-on-2 : tie.Need-slice-aggregate-work-out-on-2
+slice-aggregate-work-out-on-2 c = search needs
+
+slice-aggregate-work-out-on-3 : tie.Need-slice-aggregate-work-out-on-3
+slice-aggregate-work-out-on-3 c = search needs
+
+slice-aggregate-work-out-on-4 : tie.Need-slice-aggregate-work-out-on-4
+slice-aggregate-work-out-on-4 c = search needs
+
+slice-aggregate-work-out-on-5 : tie.Need-slice-aggregate-work-out-on-5
+slice-aggregate-work-out-on-5 c = search needs
+
+slice-aggregate-work-out-on-6 : tie.Need-slice-aggregate-work-out-on-6
+slice-aggregate-work-out-on-6 c = search needs
+
+work-out-on-requires : tie.Need-work-out-on-requires
+work-out-on-requires c κs =
+    let few = c .before .before .before .before .before .before .before .before .before .pre .0 .nodes-fit in (
+      c .before .before .before .before .before .before .before .before .before .pre .0,
+      (
+        c .before .before .before .before .before .before .before .before .before .pre .1 .0,
+        (
+          c .before .before .before .before .before .before .before .before .before .pre .1 .1,
+          (
+            record { nodes-fit = few; rooms-whole = lit≤ tt; over-whole = few; under-whole = few },
+            (
+              λ i. (zeros 4096 i, zeros 64 i, zeros 64 i),
+              record { marks-whole = few; order-whole = few; finder-whole = few },
+            ),
+          ),
+        ),
+      ),
+    )
+
+same-length : tie.Need-same-length
+same-length c = search needs
+
+returns : tie.Need-returns
+returns c = search needs
+
+pub work-out-spec : {M : Type 1} → statement M
+work-out-spec =
+    tie.close
+    (tie.spec
+    slice-aggregate-work-out-on
+    slice-aggregate-work-out-on-2
+    slice-aggregate-work-out-on-3
+    slice-aggregate-work-out-on-4
+    slice-aggregate-work-out-on-5
+    slice-aggregate-work-out-on-6
+    work-out-on-requires
+    same-length
+    returns)

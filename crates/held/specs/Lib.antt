@@ -1,0 +1,2 @@
+-- What an arc held at a count promises.
+pub mod Answer

@@ -1,0 +1,3 @@
+pub mod Unique
+pub mod Demand3
+pub mod Answering

@@ -1,0 +1,60 @@
+-- For every input the promise of narrowing admits one answer and one content of each buffer: narrowed ranges are unique, and a
+-- plan that is short has no flow and is short by one value.
+use Prim.Native.Nat.{ℕ}
+use mathlib.Core.Path.{_≡_, refl, sym, ap, _∙_}
+use mathlib.Core.List.{List}
+use mathlib.Core.Logic.{_↔_}
+use native.Mathlib.Omega.{arith}
+use Rattle.plan.specs.Plan.{Plan, WellFormed}
+use Rattle.plan.specs.Flow.{Flow}
+use Rattle.plan.specs.Verdict.{lent-short}
+use Rattle.plan.specs.declared.Verdict.the-variants.{Accepted}
+use Rattle.plan.proofs.Refusals.{accepted-or-refused, accepted-well-formed}
+use Rattle.plan.proofs.Unique.{narrowed-unique, short-by-unique, short-or-flow}
+use Rattle.stand.proofs.Writing.{alike}
+use Rattle.flow.specs.Answer.{number}
+use Rattle.flow.specs.declared.Answer.{Answer}
+use Rattle.flow.specs.declared.Answer.the-variants.{Runs, Short, Refused}
+use Rattle.narrow.specs.Answer.{judged, NarrowAnswers}
+
+module _ (p : Plan) (lows highs : List ℕ) where
+  well-formed : judged p lows highs ≡ Accepted → WellFormed p
+  well-formed = accepted-well-formed p (lent-short lows (p .arcs) highs (p .arcs))
+
+  pub narrow-answers-unique : {l h l′ h′ : List ℕ} (r r′ : Answer)
+      → NarrowAnswers p lows highs l h r → NarrowAnswers p lows highs l′ h′ r′ → (r ≡ r′) × (l ≡ l′) × (h ≡ h′)
+  narrow-answers-unique {l} {h} {l′} {h′} Runs Runs x y = (
+    refl,
+    alike (p .arcs) lows l l′ (x .lows-length) (y .lows-length)
+        (λ k lk. narrowed-unique (x .says .1 .narrowed k lk) (y .says .1 .narrowed k lk) .0)
+        (x .says .1 .lows-past) (y .says .1 .lows-past),
+    alike (p .arcs) highs h h′ (x .highs-length) (y .highs-length)
+        (λ k lk. narrowed-unique (x .says .1 .narrowed k lk) (y .says .1 .narrowed k lk) .1)
+        (x .says .1 .highs-past) (y .says .1 .highs-past),
+  )
+  narrow-answers-unique Runs (Short v) x y =
+      absurd (short-or-flow (well-formed (x .says .0)) (y .says .1 .0 .1) (x .says .1 .has-flow .flow))
+  narrow-answers-unique Runs (Refused m i) x y = absurd (accepted-or-refused (x .says .0) (y .says .0))
+  narrow-answers-unique (Short v) Runs x y =
+      absurd (short-or-flow (well-formed (x .says .0)) (x .says .1 .0 .1) (y .says .1 .has-flow .flow))
+  narrow-answers-unique (Short v) (Short v′) x y = (
+    ap Short (short-by-unique (x .says .1 .0 .1) (y .says .1 .0 .1)),
+    x .says .1 .1 ∙ sym (y .says .1 .1),
+    x .says .1 .2 ∙ sym (y .says .1 .2),
+  )
+  narrow-answers-unique (Short v) (Refused m i) x y = absurd (accepted-or-refused (x .says .0) (y .says .0))
+  narrow-answers-unique (Refused m i) Runs x y = absurd (accepted-or-refused (y .says .0) (x .says .0))
+  narrow-answers-unique (Refused m i) (Short v) x y = absurd (accepted-or-refused (y .says .0) (x .says .0))
+  narrow-answers-unique (Refused m i) (Refused m′ i′) x y = (
+    cc (x .says .0, y .says .0),
+    x .says .1 ∙ sym (y .says .1),
+    x .says .2 ∙ sym (y .says .2),
+  )
+
+  -- an accepted plan gets number 9 exactly if no flow exists
+  pub narrow-no-exactly-if-no-flow : {l h : List ℕ} (r : Answer) → judged p lows highs ≡ Accepted
+      → NarrowAnswers p lows highs l h r → (number r ≡ 9) ↔ ((f : ℕ → ℕ) → Flow p f → ⊥)
+  narrow-no-exactly-if-no-flow Runs e x =
+      (λ no. absurd (omega arith), λ none. absurd (none (x .says .1 .has-flow .counts) (x .says .1 .has-flow .flow)))
+  narrow-no-exactly-if-no-flow (Short v) e x = (λ no f c. short-or-flow (well-formed e) (x .says .1 .0 .1) c, λ none. refl)
+  narrow-no-exactly-if-no-flow (Refused m i) e x = absurd (accepted-or-refused e (x .says .0))

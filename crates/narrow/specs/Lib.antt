@@ -1,0 +1,2 @@
+-- What narrowing promises.
+pub mod Answer

@@ -1,0 +1,156 @@
+// The narrowing request of document 01, for every input.
+use engine::rooms::Rooms;
+use flow::Answer;
+use plan::Arc;
+use plan::Plan;
+use plan::Verdict;
+use plan::network::check;
+use plan::network::too_short;
+use stand::Asked;
+use stand::ask::ask;
+use stand::ends::end_for;
+ghost use mathlib.Core.Path.{_≡_};
+ghost use mathlib.Core.Bool.{false};
+ghost use Prim.Native.Nat.{ℕ, _≤_, _<_, _/_};
+ghost use lib.ListN.{length};
+ghost use Rattle.engine.specs.Room.{at, seen, Lent};
+ghost use Rattle.engine.specs.Searched.{Desk};
+ghost use Rattle.plan.specs.Limits.{arc-entries};
+ghost use Rattle.plan.specs.Plan.{WellFormed, plan-of};
+ghost use Rattle.plan.specs.Reason.{NarrowedEnd};
+ghost use Rattle.stand.specs.State.{Ready};
+ghost use Rattle.narrow.specs.Answer.{Told, NarrowAnswers};
+
+// Writes the smallest count of each arc, or with `upper` the largest. The flow that was found is carried
+// on from arc to arc.
+fn write_ends(
+    arcs: &[u32],
+    supplies: &[i32],
+    upper: bool,
+    ends: &mut [u32],
+    rooms: &mut [u32],
+    over: &mut [u32],
+    under: &mut [u32],
+    marks: &mut [u8],
+    order: &mut [usize],
+    finder: &mut [usize],
+)
+    requires plan { ⌜ WellFormed (plan-of (now arcs) (now supplies)) ⌝ }
+    requires lent { ⌜ Lent (length (now supplies)) (now rooms) (now over) (now under) ⌝ }
+    requires desk { ⌜ Desk (length (now supplies)) (now marks) (now order) (now finder) ⌝ }
+    requires ready { ⌜ Ready (plan-of (now arcs) (now supplies)) (seen (now rooms) false) (at (now over)) (at (now under)) ⌝ }
+    requires whole { ⌜ length (now arcs) / arc-entries ≤ length (now ends) ⌝ }
+    ensures ends { λ r. ⌜ ((k : ℕ) → k < length (now (arcs .entry)) / arc-entries → NarrowedEnd (plan-of (now (arcs .entry)) (now (supplies .entry))) k upper (at (now (ends .exit)) k)) ⌝ }
+    ensures past { λ r. ⌜ ((i : ℕ) → length (now (arcs .entry)) / arc-entries ≤ i → at (now (ends .exit)) i ≡ at (now (ends .entry)) i) ⌝ }
+    ensures ready { λ r. ⌜ Ready (plan-of (now (arcs .entry)) (now (supplies .entry))) (seen (now (rooms .exit)) false) (at (now (over .exit))) (at (now (under .exit))) ⌝ }
+{
+    let count = arcs.len() / Arc::ENTRIES;
+    let mut k = 0;
+    while k < count {
+        ends[k] = end_for(
+            arcs,
+            supplies,
+            k,
+            upper,
+            rooms,
+            over,
+            under,
+            marks,
+            order,
+            finder,
+        );
+        k += 1;
+    }
+}
+
+// Works a well-formed plan out on a desk that is lent: rooms, over and under hold zeros.
+fn work_out_on(
+    arcs: &[u32],
+    supplies: &[i32],
+    lows: &mut [u32],
+    highs: &mut [u32],
+    rooms: &mut [u32],
+    over: &mut [u32],
+    under: &mut [u32],
+    marks: &mut [u8],
+    order: &mut [usize],
+    finder: &mut [usize],
+) -> Asked
+    requires plan { ⌜ WellFormed (plan-of (now arcs) (now supplies)) ⌝ }
+    requires whole { ⌜ (length (now arcs) / arc-entries ≤ length (now lows)) × (length (now arcs) / arc-entries ≤ length (now highs)) ⌝ }
+    requires lent { ⌜ Lent (length (now supplies)) (now rooms) (now over) (now under) ⌝ }
+    requires empty { ⌜ ((i : ℕ) → (at (now rooms) i ≡ 0) × (at (now over) i ≡ 0) × (at (now under) i ≡ 0)) ⌝ }
+    requires desk { ⌜ Desk (length (now supplies)) (now marks) (now order) (now finder) ⌝ }
+    ensures { λ r. ⌜ Told (plan-of (now (arcs .entry)) (now (supplies .entry))) (now (lows .entry)) (now (highs .entry)) (now (lows .exit)) (now (highs .exit)) r ⌝ }
+{
+    let asked = ask(arcs, supplies, rooms, over, under, marks, order, finder);
+    let Asked::Balances = asked else {
+        return asked;
+    };
+    write_ends(
+        arcs,
+        supplies,
+        false,
+        lows,
+        rooms,
+        over,
+        under,
+        marks,
+        order,
+        finder,
+    );
+    write_ends(
+        arcs,
+        supplies,
+        true,
+        highs,
+        rooms,
+        over,
+        under,
+        marks,
+        order,
+        finder,
+    );
+    Asked::Balances
+}
+
+// Works a well-formed plan out: both ends of every arc, or nothing written and what lacks.
+fn work_out(arcs: &[u32], supplies: &[i32], lows: &mut [u32], highs: &mut [u32]) -> Asked
+    requires plan { ⌜ WellFormed (plan-of (now arcs) (now supplies)) ⌝ }
+    requires whole { ⌜ (length (now arcs) / arc-entries ≤ length (now lows)) × (length (now arcs) / arc-entries ≤ length (now highs)) ⌝ }
+    ensures { λ r. ⌜ Told (plan-of (now (arcs .entry)) (now (supplies .entry))) (now (lows .entry)) (now (highs .entry)) (now (lows .exit)) (now (highs .exit)) r ⌝ }
+{
+    let mut rooms = [0u32; Rooms::CELLS];
+    let mut over = [0u32; Plan::MOST_NODES];
+    let mut under = [0u32; Plan::MOST_NODES];
+    let mut marks = [0u8; Plan::MOST_NODES];
+    let mut order = [0usize; Plan::MOST_NODES];
+    let mut finder = [0usize; Plan::MOST_NODES];
+    work_out_on(
+        arcs,
+        supplies,
+        lows,
+        highs,
+        &mut rooms,
+        &mut over,
+        &mut under,
+        &mut marks,
+        &mut order,
+        &mut finder,
+    )
+}
+
+// For every arc k the least and the greatest f k over all flows f: low ≤ f ≤ high on every arc and, at
+// every node, what goes out minus what comes in equal to the supply. Every count between the two occurs in
+// a flow. If there is no flow or the input is turned down, both buffers stay.
+pub fn narrow(arcs: &[u32], supplies: &[i32], lows: &mut [u32], highs: &mut [u32]) -> Answer
+    ensures { λ r. ⌜ NarrowAnswers (plan-of (now (arcs .entry)) (now (supplies .entry))) (now (lows .entry)) (now (highs .entry)) (now (lows .exit)) (now (highs .exit)) r ⌝ }
+{
+    let size = Plan::of(arcs, supplies);
+    let short = too_short(lows.len(), size.arcs, highs.len(), size.arcs);
+    let verdict = check(arcs, supplies, short);
+    if let Verdict::Refused(number, index) = verdict {
+        return Answer::Refused(number, index);
+    }
+    Answer::to(work_out(arcs, supplies, lows, highs))
+}

@@ -1,0 +1,41 @@
+-- From the check to a request's answer: which verdict it is, and what acceptance says of the plan and of two lent buffers.
+use Prim.Native.Nat.{ℕ, _≤_}
+use mathlib.Core.Path.{_≡_, sym, ap, _∙_}
+use mathlib.Core.Bool.{Bool, false, _||_}
+use mathlib.Core.List.{List}
+use lib.Dec.{ltb}
+use lib.ListN.{length}
+use borrow.Author.Tests.{ltb-false}
+use Rattle.plan.specs.Plan.{Plan, WellFormed}
+use Rattle.plan.specs.Verdict.{verdict, network-rules, asking-rules, lent-short}
+use Rattle.plan.specs.declared.Verdict.{Verdict}
+use Rattle.plan.specs.declared.Verdict.the-variants.{Accepted}
+use Rattle.plan.proofs.Refusals.{accepted-well-formed, accepted-buffers-fit, neither}
+
+-- two lent buffers, of which m and n entries are asked, and which the check was told of
+module _ (p : Plan) (first second : List ℕ) {short : Bool} {m n m′ n′ : ℕ} (m-is : m ≡ m′) (n-is : n ≡ n′)
+    (short-is : short ≡ (ltb (length first) m || ltb (length second) n)) where
+  lent : short ≡ lent-short first m′ second n′
+  lent = rw (m-is, n-is) at short-is
+
+  -- the check's verdict is the one that the definition asks for
+  pub checked-verdict : {v : Verdict} → v ≡ verdict (network-rules p short) → verdict (network-rules p (lent-short first m′ second n′)) ≡ v
+  checked-verdict checked = sym (ap (λ b. verdict (network-rules p b)) lent) ∙ sym checked
+
+  pub asked-verdict : (missing : Bool) {v : Verdict} → v ≡ verdict (asking-rules p short missing)
+      → verdict (asking-rules p (lent-short first m′ second n′) missing) ≡ v
+  asked-verdict missing checked = sym (ap (λ b. verdict (asking-rules p b missing)) lent) ∙ sym checked
+
+-- what acceptance says of the plan and of the buffers
+module _ (p : Plan) (first second : List ℕ) (m n : ℕ) (accepted : verdict (network-rules p (lent-short first m second n)) ≡ Accepted) where
+  pub accepted-plan : WellFormed p
+  accepted-plan = accepted-well-formed p (lent-short first m second n) accepted
+
+  both-fit : (ltb (length first) m ≡ false) × (ltb (length second) n ≡ false)
+  both-fit = neither _ _ (accepted-buffers-fit p (lent-short first m second n) accepted)
+
+  pub first-fits : m ≤ length first
+  first-fits = ltb-false (length first) m (both-fit .0)
+
+  pub second-fits : n ≤ length second
+  second-fits = ltb-false (length second) n (both-fit .1)

@@ -1,0 +1,59 @@
+-- What is free of an arc's width says what there is to say of an end: where it lies, and which set moved it there.
+use Prim.Native.Nat.{ℕ, _+_, _-_, _≤_, _<_}
+use mathlib.Core.Path.{_≡_, subst}
+use mathlib.Core.Bool.{Bool, true, false, cond}
+use mathlib.Core.List.{List}
+use native.Mathlib.Omega.{arith}
+use Rattle.engine.specs.Room.{at, seen}
+use Rattle.engine.specs.Reach.{marked}
+use Rattle.across.specs.Raise.{Raised}
+use Rattle.plan.specs.Plan.{Plan, WellFormed}
+use Rattle.plan.specs.Reason.{own-end, NarrowedEnd, EndReason, end-marks}
+use Rattle.stand.specs.State.{Ready, Standing}
+use Rattle.stand.specs.Written.{Written}
+use Rattle.stand.proofs.OneArc.{own-standing, standing-loop, facing-end, facing-reason}
+use Rattle.stand.proofs.Writing.{written-alike, plain-mark}
+use Rattle.reason.specs.Answer.{Cited}
+use Rattle.reason.specs.Freed.{Freed}
+
+-- where all of a range is free, its end is its own
+all-free : {low high : ℕ} → low ≤ high → (upper : Bool) → cond upper (low + (high - low)) (high - (high - low)) ≡ cond upper high low
+all-free fits false = omega arith
+all-free fits true = omega arith
+
+module _ {p : Plan} {k : ℕ} (w : WellFormed p) (l : k < p .arcs) where
+  -- all of a self-loop's width is free
+  pub loop-freed : {room : ℕ → ℕ → ℕ} {over under : ℕ → ℕ} {marks : List ℕ} → Ready p room over under → p .to k ≡ p .from k → (upper : Bool)
+      → Freed p k upper (p .high k - p .low k) marks
+  loop-freed y loop upper = record {
+    fits = omega arith;
+    end = rw (all-free (w .uncrossed k l) upper) (standing-loop (own-standing w l y) upper loop);
+    reason = λ less. absurd (omega arith);
+    marks-plain = λ less. absurd (omega arith);
+  }
+
+  pub raised-freed : (rooms : List ℕ) {room′ : ℕ → ℕ → ℕ} {over under over′ under′ : ℕ → ℕ} {free : ℕ} {marks : List ℕ} → Ready p (seen rooms false) over under
+      → (upper : Bool) → Raised (p .nodes) (seen rooms upper) room′ over′ under′ (p .from k) (p .to k) (p .high k - p .low k) free marks
+      → Freed p k upper free marks
+  raised-freed rooms y upper r = record {
+    fits = r .measure .fits;
+    end = facing-end rooms (own-standing w l y) upper (r .measure);
+    reason = facing-reason rooms (own-standing w l y) upper (r .measure);
+    marks-plain = r .marks-plain;
+  }
+
+  module _ {upper : Bool} {free : ℕ} {marks : List ℕ} (f : Freed p k upper free marks) where
+    pub freed-stands : free ≡ p .high k - p .low k → NarrowedEnd p k upper (own-end p k upper)
+    freed-stands all = subst (λ x. NarrowedEnd p k upper x) (rw all (all-free (w .uncrossed k l) upper)) (f .end)
+
+    pub freed-cited : {arcs nodes arcs′ nodes′ : List ℕ} → (free ≡ p .high k - p .low k → ⊥) → Written (at marks) (p .nodes) nodes nodes′
+        → Written (end-marks p k upper (marked marks)) (p .arcs) arcs arcs′
+        → Cited p k upper (cond upper (p .low k + free) (p .high k - free)) arcs nodes arcs′ nodes′
+    freed-cited not-all inside cited =
+        let less : free < p .high k - p .low k = omega (arith, f .fits, not-all) in
+        record {
+          set = marked marks;
+          reason = f .reason less;
+          node-marks = written-alike (λ v lv. plain-mark (at marks v) (f .marks-plain less v lv)) inside;
+          arc-marks = cited;
+        }

@@ -1,0 +1,3 @@
+-- What the reason for an end promises, and what it is worked out from.
+pub mod Answer
+pub mod Freed

@@ -1,0 +1,228 @@
+// The request of document 01 for the reason of one end of one arc, for every input.
+use crate::Answer;
+use across::raise::raise;
+use engine::rooms::Rooms;
+use flow::marks::mark_arcs_for;
+use flow::marks::mark_nodes;
+use plan::Plan;
+use plan::Verdict;
+use plan::network::check_asked;
+use plan::network::too_short;
+use stand::ask::ask;
+use stand::build::arc_at;
+use stand::counts::end_at;
+ghost use mathlib.Core.Path.{_≡_};
+ghost use mathlib.Core.Bool.{false, _||_};
+ghost use Prim.Native.Nat.{ℕ, _≤_, _<_, _/_};
+ghost use lib.Dec.{leb, ltb};
+ghost use lib.ListN.{length};
+ghost use Rattle.engine.specs.Room.{at, seen, Lent};
+ghost use Rattle.engine.specs.Searched.{Desk};
+ghost use Rattle.plan.specs.Limits.{arc-entries};
+ghost use Rattle.plan.specs.Plan.{WellFormed, plan-of};
+ghost use Rattle.stand.specs.State.{Ready};
+ghost use Rattle.reason.specs.Answer.{Told, ReasonAnswers};
+ghost use Rattle.reason.specs.Freed.{Freed};
+
+// Whether there is no arc k among m, or the end is neither 0 nor 1.
+fn missing(m: usize, k: usize, end: u32) -> bool
+    ensures { λ r. ⌜ r ≡ (leb m k || ltb 1 end) ⌝ }
+{
+    if m <= k {
+        return true;
+    }
+    1 < end
+}
+
+// How much of the width of arc k is free for its low end, or with `upper` for its high end. The arc itself
+// is out of the search: a step back along it does not let its end stand.
+fn free_of(
+    arcs: &[u32],
+    supplies: &[i32],
+    k: usize,
+    upper: bool,
+    rooms: &mut [u32],
+    over: &mut [u32],
+    under: &mut [u32],
+    marks: &mut [u8],
+    order: &mut [usize],
+    finder: &mut [usize],
+) -> u32
+    requires plan { ⌜ WellFormed (plan-of (now arcs) (now supplies)) ⌝ }
+    requires arc { ⌜ k < length (now arcs) / arc-entries ⌝ }
+    requires lent { ⌜ Lent (length (now supplies)) (now rooms) (now over) (now under) ⌝ }
+    requires desk { ⌜ Desk (length (now supplies)) (now marks) (now order) (now finder) ⌝ }
+    requires ready { ⌜ Ready (plan-of (now arcs) (now supplies)) (seen (now rooms) false) (at (now over)) (at (now under)) ⌝ }
+    ensures { λ r. ⌜ Freed (plan-of (now (arcs .entry)) (now (supplies .entry))) k upper r (now (marks .exit)) ⌝ }
+{
+    let arc = arc_at(arcs, k);
+    let n = supplies.len();
+    let from = arc.from as usize;
+    let to = arc.to as usize;
+    let width = arc.high - arc.low;
+    if from == to {
+        return width;
+    }
+    raise(
+        rooms,
+        upper,
+        over,
+        under,
+        n,
+        from,
+        to,
+        width,
+        marks,
+        order,
+        finder,
+    )
+}
+
+// Says whether the end of arc k stands, in a plan that stands ready; if it moved, marks the reason.
+fn explain(
+    arcs: &[u32],
+    supplies: &[i32],
+    k: usize,
+    upper: bool,
+    arc_buffer: &mut [u32],
+    node_buffer: &mut [u8],
+    rooms: &mut [u32],
+    over: &mut [u32],
+    under: &mut [u32],
+    marks: &mut [u8],
+    order: &mut [usize],
+    finder: &mut [usize],
+) -> Answer
+    requires plan { ⌜ WellFormed (plan-of (now arcs) (now supplies)) ⌝ }
+    requires arc { ⌜ k < length (now arcs) / arc-entries ⌝ }
+    requires whole { ⌜ (length (now arcs) / arc-entries ≤ length (now «arc_buffer»)) × (length (now supplies) ≤ length (now «node_buffer»)) ⌝ }
+    requires lent { ⌜ Lent (length (now supplies)) (now rooms) (now over) (now under) ⌝ }
+    requires desk { ⌜ Desk (length (now supplies)) (now marks) (now order) (now finder) ⌝ }
+    requires ready { ⌜ Ready (plan-of (now arcs) (now supplies)) (seen (now rooms) false) (at (now over)) (at (now under)) ⌝ }
+    ensures { λ r. ⌜ Told (plan-of (now (arcs .entry)) (now (supplies .entry))) k upper (now («arc_buffer» .entry)) (now («node_buffer» .entry)) (now («arc_buffer» .exit)) (now («node_buffer» .exit)) r ⌝ }
+{
+    let free = free_of(
+        arcs,
+        supplies,
+        k,
+        upper,
+        rooms,
+        over,
+        under,
+        marks,
+        order,
+        finder,
+    );
+    let arc = arc_at(arcs, k);
+    if free == arc.high - arc.low {
+        return Answer::Stands;
+    }
+    mark_nodes(marks, supplies.len(), node_buffer);
+    mark_arcs_for(arcs, supplies, marks, k, upper, arc_buffer);
+    Answer::Moved(end_at(upper, arc.low, arc.high, free))
+}
+
+// Works out an end of a well-formed plan on a desk that is lent: rooms, over and under hold zeros.
+fn work_out_on(
+    arcs: &[u32],
+    supplies: &[i32],
+    k: usize,
+    upper: bool,
+    arc_buffer: &mut [u32],
+    node_buffer: &mut [u8],
+    rooms: &mut [u32],
+    over: &mut [u32],
+    under: &mut [u32],
+    marks: &mut [u8],
+    order: &mut [usize],
+    finder: &mut [usize],
+) -> Answer
+    requires plan { ⌜ WellFormed (plan-of (now arcs) (now supplies)) ⌝ }
+    requires arc { ⌜ k < length (now arcs) / arc-entries ⌝ }
+    requires whole { ⌜ (length (now arcs) / arc-entries ≤ length (now «arc_buffer»)) × (length (now supplies) ≤ length (now «node_buffer»)) ⌝ }
+    requires lent { ⌜ Lent (length (now supplies)) (now rooms) (now over) (now under) ⌝ }
+    requires empty { ⌜ ((i : ℕ) → (at (now rooms) i ≡ 0) × (at (now over) i ≡ 0) × (at (now under) i ≡ 0)) ⌝ }
+    requires desk { ⌜ Desk (length (now supplies)) (now marks) (now order) (now finder) ⌝ }
+    ensures { λ r. ⌜ Told (plan-of (now (arcs .entry)) (now (supplies .entry))) k upper (now («arc_buffer» .entry)) (now («node_buffer» .entry)) (now («arc_buffer» .exit)) (now («node_buffer» .exit)) r ⌝ }
+{
+    let asked = Answer::to(ask(arcs, supplies, rooms, over, under, marks, order, finder));
+    let Answer::Stands = asked else {
+        return asked;
+    };
+    explain(
+        arcs,
+        supplies,
+        k,
+        upper,
+        arc_buffer,
+        node_buffer,
+        rooms,
+        over,
+        under,
+        marks,
+        order,
+        finder,
+    )
+}
+
+// Works out an end of a well-formed plan.
+fn work_out(
+    arcs: &[u32],
+    supplies: &[i32],
+    k: usize,
+    upper: bool,
+    arc_buffer: &mut [u32],
+    node_buffer: &mut [u8],
+) -> Answer
+    requires plan { ⌜ WellFormed (plan-of (now arcs) (now supplies)) ⌝ }
+    requires arc { ⌜ k < length (now arcs) / arc-entries ⌝ }
+    requires whole { ⌜ (length (now arcs) / arc-entries ≤ length (now «arc_buffer»)) × (length (now supplies) ≤ length (now «node_buffer»)) ⌝ }
+    ensures { λ r. ⌜ Told (plan-of (now (arcs .entry)) (now (supplies .entry))) k upper (now («arc_buffer» .entry)) (now («node_buffer» .entry)) (now («arc_buffer» .exit)) (now («node_buffer» .exit)) r ⌝ }
+{
+    let mut rooms = [0u32; Rooms::CELLS];
+    let mut over = [0u32; Plan::MOST_NODES];
+    let mut under = [0u32; Plan::MOST_NODES];
+    let mut marks = [0u8; Plan::MOST_NODES];
+    let mut order = [0usize; Plan::MOST_NODES];
+    let mut finder = [0usize; Plan::MOST_NODES];
+    work_out_on(
+        arcs,
+        supplies,
+        k,
+        upper,
+        arc_buffer,
+        node_buffer,
+        &mut rooms,
+        &mut over,
+        &mut under,
+        &mut marks,
+        &mut order,
+        &mut finder,
+    )
+}
+
+// Why the low end (0) or the high end (1) of an arc lies where it does. Take the sets S that the arc leaves.
+// Each forces at least Σ supplies(S) - Σ highs of the other arcs leaving S + Σ lows entering S on it, and
+// allows at most Σ supplies(S) + Σ highs entering S - Σ lows of the other arcs leaving S. An end that moved
+// is the greatest number forced or the least allowed: the least set that gives it is marked in the node
+// buffer, and the bounds in its sum in the arc buffer. No flow passes that number, since every flow keeps
+// to these bounds. If the end stands, or there is no flow, or the input is turned down, both buffers stay.
+pub fn reason(
+    arcs: &[u32],
+    supplies: &[i32],
+    arc: u32,
+    end: u32,
+    arc_buffer: &mut [u32],
+    node_buffer: &mut [u8],
+) -> Answer
+    ensures { λ r. ⌜ ReasonAnswers (plan-of (now (arcs .entry)) (now (supplies .entry))) arc end (now («arc_buffer» .entry)) (now («node_buffer» .entry)) (now («arc_buffer» .exit)) (now («node_buffer» .exit)) r ⌝ }
+{
+    let size = Plan::of(arcs, supplies);
+    let short = too_short(arc_buffer.len(), size.arcs, node_buffer.len(), size.nodes);
+    let k = arc as usize;
+    let verdict = check_asked(arcs, supplies, short, missing(size.arcs, k, end));
+    if let Verdict::Refused(number, index) = verdict {
+        return Answer::Refused(number, index);
+    }
+    work_out(arcs, supplies, k, end == 1, arc_buffer, node_buffer)
+}

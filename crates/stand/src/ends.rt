@@ -1,0 +1,54 @@
+// An end of the narrowed range of an arc of the plan that two lists hold. The plan stands ready before and
+// after. Internal.
+use crate::build::arc_at;
+use crate::counts::end_of;
+ghost use mathlib.Core.Bool.{false};
+ghost use Prim.Native.Nat.{ℕ, _<_, _/_};
+ghost use lib.ListN.{length};
+ghost use Rattle.engine.specs.Room.{at, seen, Lent};
+ghost use Rattle.engine.specs.Searched.{Desk};
+ghost use Rattle.plan.specs.Limits.{arc-entries};
+ghost use Rattle.plan.specs.Plan.{WellFormed, plan-of};
+ghost use Rattle.plan.specs.Reason.{NarrowedEnd};
+ghost use Rattle.stand.specs.State.{Ready};
+
+// The smallest count of arc k over all flows, or with `upper` the largest.
+pub fn end_for(
+    arcs: &[u32],
+    supplies: &[i32],
+    k: usize,
+    upper: bool,
+    rooms: &mut [u32],
+    over: &mut [u32],
+    under: &mut [u32],
+    marks: &mut [u8],
+    order: &mut [usize],
+    finder: &mut [usize],
+) -> u32
+    requires plan { ⌜ WellFormed (plan-of (now arcs) (now supplies)) ⌝ }
+    requires lent { ⌜ Lent (length (now supplies)) (now rooms) (now over) (now under) ⌝ }
+    requires desk { ⌜ Desk (length (now supplies)) (now marks) (now order) (now finder) ⌝ }
+    requires arc { ⌜ k < length (now arcs) / arc-entries ⌝ }
+    requires ready { ⌜ Ready (plan-of (now arcs) (now supplies)) (seen (now rooms) false) (at (now over)) (at (now under)) ⌝ }
+    ensures end { λ r. ⌜ NarrowedEnd (plan-of (now (arcs .entry)) (now (supplies .entry))) k upper r ⌝ }
+    ensures ready { λ r. ⌜ Ready (plan-of (now (arcs .entry)) (now (supplies .entry))) (seen (now (rooms .exit)) false) (at (now (over .exit))) (at (now (under .exit))) ⌝ }
+{
+    let arc = arc_at(arcs, k);
+    let n = supplies.len();
+    let from = arc.from as usize;
+    let to = arc.to as usize;
+    end_of(
+        rooms,
+        upper,
+        over,
+        under,
+        n,
+        from,
+        to,
+        arc.low,
+        arc.high,
+        marks,
+        order,
+        finder,
+    )
+}
