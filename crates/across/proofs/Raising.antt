@@ -151,7 +151,7 @@ push-shifts n few {room} {room′} {over} {under} {over′} {under′} {a} {b} {
   };
   there = h .back;
   back = h .there;
-  over-more = λ v l away. sym (o .elsewhere v away);
+  over-elsewhere = λ v l away. sym (o .elsewhere v away);
   under-more = sym (sum-in-less n (λ v. true) under′ under b d lb u);
 }
   where
@@ -191,7 +191,7 @@ module _ {n : ℕ} {room room₁ room′ : ℕ → ℕ → ℕ} {over under over
   )
 
   only-at-a : (R : ℕ → Bool) → sum-in n R over′ ≡ only (R a) (over′ a)
-  only-at-a R = sum-in-single n R over′ a la (λ v l away. omega (arith, k .over-falls v l, shift .over-more v l away, even .none-over v l))
+  only-at-a R = sum-in-single n R over′ a la (λ v l away. omega (arith, k .over-falls v l, shift .over-elsewhere v l away, even .none-over v l))
 
   -- what is free of the width
   abbrev free₀ : ℕ
@@ -244,7 +244,7 @@ module _ {n : ℕ} {room room₁ room′ : ℕ → ℕ → ℕ} {over under over
         (record {
           holds = λ x lx more. by-cases (ℕ-discrete x a)
               (λ ex. rw ex (s .inside))
-              (λ nx. absurd (omega (arith, k .over-falls x lx, shift .over-more x lx nx, even .none-over x lx)));
+              (λ nx. absurd (omega (arith, k .over-falls x lx, shift .over-elsewhere x lx nx, even .none-over x lx)));
         })
         (record { closed = λ x y lx ly sx st. inside-by R s e x y lx ly sx st (R y) refl });
   }

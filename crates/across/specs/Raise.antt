@@ -24,14 +24,15 @@ pub record SameAccount (n : ℕ) (room : ℕ → ℕ → ℕ) (over under : ℕ 
       → crossing n room S + sum-in n S under + sum-in n S over′ ≡ crossing n room′ S + sum-in n S under′ + sum-in n S over
   pub pairs : (x y : ℕ) → x < n → y < n → room x y + room y x ≡ room′ x y + room′ y x
 
--- d is brought from b to a against nothing: it is then over at a and under at b
+-- d is brought from b to a: it is then over at a and under at b, and nothing else comes to be over
 pub record Shifted (n : ℕ) (room : ℕ → ℕ → ℕ) (over under : ℕ → ℕ) (room′ : ℕ → ℕ → ℕ) (over′ under′ : ℕ → ℕ) (a b d : ℕ) : Type 0 where
   pub same : SameAccount n room over under room′ over′ under′
   pub there : room′ a b ≡ room a b + d
   pub back : room′ b a + d ≡ room b a
-  pub over-more : (v : ℕ) → v < n → (v ≡ a → ⊥) → over′ v ≡ over v
+  pub over-elsewhere : (v : ℕ) → v < n → (v ≡ a → ⊥) → over′ v ≡ over v
   pub under-more : sum n under′ ≡ sum n under + d
 
+-- a set with a inside and b outside
 pub record Splits (a b : ℕ) (S : ℕ → Bool) : Type 0 where
   pub inside : S a ≡ true
   pub outside : S b ≡ false

@@ -12,11 +12,10 @@ use engine::sweep::move_on;
 use engine::sweep::pay;
 ghost use mathlib.Core.Path.{_≡_};
 ghost use mathlib.Core.Bool.{false};
-ghost use Prim.Native.Nat.{ℕ, _+_, _*_, _^_, _≤_, _<_};
+ghost use Prim.Native.Nat.{_+_, _*_, _^_, _≤_, _<_};
 ghost use lib.ListN.{length};
 ghost use Rattle.engine.specs.Room.{side, at, seen, Small, Kept, Lent};
 ghost use Rattle.engine.specs.Move.{Taken};
-ghost use Rattle.engine.specs.Searched.{Desk};
 ghost use Rattle.across.specs.Raise.{Balanced, NoneShort, Shifted, Stopped, Raised, Measured, MadeRoom, HeldOut};
 
 // Moves all that is over to where it lacks, where no set is short.
@@ -27,17 +26,15 @@ pub fn rebalance(
     under: &mut [u32],
     n: usize,
     marks: &mut [u8],
-    order: &mut [usize],
-    finder: &mut [usize],
 )
     requires lent { ⌜ Lent n (now rooms) (now over) (now under) ⌝ }
     requires small { ⌜ Small n (seen (now rooms) back) (at (now under)) ⌝ }
-    requires desk { ⌜ Desk n (now marks) (now order) (now finder) ⌝ }
+    requires marks { ⌜ n ≤ length (now marks) ⌝ }
     requires covered { ⌜ NoneShort n (seen (now rooms) back) (at (now over)) (at (now under)) ⌝ }
     ensures kept { λ r. ⌜ Kept n (seen (now (rooms .entry)) back) (at (now (over .entry))) (at (now (under .entry))) (seen (now (rooms .exit)) back) (at (now (over .exit))) (at (now (under .exit))) ⌝ }
     ensures balanced { λ r. ⌜ Balanced n (at (now (over .exit))) (at (now (under .exit))) ⌝ }
 {
-    settle(rooms, back, over, under, n, n, n, marks, order, finder);
+    settle(rooms, back, over, under, n, n, n, marks);
 }
 
 // Brings d from b to a: it is then over at a and lacks at b.
@@ -72,19 +69,17 @@ fn go_round(
     b: usize,
     d: u32,
     marks: &mut [u8],
-    order: &mut [usize],
-    finder: &mut [usize],
 )
     requires lent { ⌜ Lent n (now rooms) (now over) (now under) ⌝ }
     requires small { ⌜ Small n (seen (now rooms) back) (at (now under)) ⌝ }
-    requires desk { ⌜ Desk n (now marks) (now order) (now finder) ⌝ }
+    requires marks { ⌜ n ≤ length (now marks) ⌝ }
     requires balanced { ⌜ Balanced n (at (now over)) (at (now under)) ⌝ }
     requires nodes { ⌜ (a < n) × (b < n) × (b ≡ a → ⊥) ⌝ }
     requires fits { ⌜ d ≤ seen (now rooms) back b a ⌝ }
     ensures { λ r. ⌜ Stopped n (seen (now (rooms .entry)) back) (seen (now (rooms .exit)) back) (at (now (over .exit))) (at (now (under .exit))) a b d (now (marks .exit)) ⌝ }
 {
     shift(rooms, back, over, under, n, a, b, d);
-    settle(rooms, back, over, under, n, a, b, marks, order, finder);
+    settle(rooms, back, over, under, n, a, b, marks);
 }
 
 // How much of a width is free from a to b: the least room that leads out of a set with a inside and b
@@ -99,12 +94,10 @@ pub fn raise(
     b: usize,
     width: u32,
     marks: &mut [u8],
-    order: &mut [usize],
-    finder: &mut [usize],
 ) -> u32
     requires lent { ⌜ Lent n (now rooms) (now over) (now under) ⌝ }
     requires small { ⌜ Small n (seen (now rooms) back) (at (now under)) ⌝ }
-    requires desk { ⌜ Desk n (now marks) (now order) (now finder) ⌝ }
+    requires marks { ⌜ n ≤ length (now marks) ⌝ }
     requires balanced { ⌜ Balanced n (at (now over)) (at (now under)) ⌝ }
     requires nodes { ⌜ (a < n) × (b < n) × (b ≡ a → ⊥) ⌝ }
     requires wide { ⌜ width ≤ seen (now rooms) back a b + seen (now rooms) back b a ⌝ }
@@ -114,19 +107,7 @@ pub fn raise(
     if width <= there {
         return width;
     }
-    go_round(
-        rooms,
-        back,
-        over,
-        under,
-        n,
-        a,
-        b,
-        width - there,
-        marks,
-        order,
-        finder,
-    );
+    go_round(rooms, back, over, under, n, a, b, width - there, marks);
     lesser(width, room_of(rooms, back, a, b) - over[a])
 }
 
@@ -161,33 +142,19 @@ pub fn measure(
     b: usize,
     width: u32,
     marks: &mut [u8],
-    order: &mut [usize],
-    finder: &mut [usize],
 ) -> u32
     requires lent { ⌜ Lent n (now rooms) (now over) (now under) ⌝ }
     requires small { ⌜ Small n (seen (now rooms) back) (at (now under)) ⌝ }
-    requires desk { ⌜ Desk n (now marks) (now order) (now finder) ⌝ }
+    requires marks { ⌜ n ≤ length (now marks) ⌝ }
     requires balanced { ⌜ Balanced n (at (now over)) (at (now under)) ⌝ }
     requires nodes { ⌜ (a < n) × (b < n) × (b ≡ a → ⊥) ⌝ }
     requires wide { ⌜ width ≤ seen (now rooms) back a b + seen (now rooms) back b a ⌝ }
     ensures measured { λ r. ⌜ Measured n back (now (rooms .entry)) (now (rooms .exit)) a b width r ⌝ }
     ensures balanced { λ r. ⌜ Balanced n (at (now (over .exit))) (at (now (under .exit))) ⌝ }
 {
-    let free = raise(
-        rooms,
-        back,
-        over,
-        under,
-        n,
-        a,
-        b,
-        width,
-        marks,
-        order,
-        finder,
-    );
+    let free = raise(rooms, back, over, under, n, a, b, width, marks);
     bring_back(rooms, back, over, under, n, a, b);
-    rebalance(rooms, back, over, under, n, marks, order, finder);
+    rebalance(rooms, back, over, under, n, marks);
     free
 }
 

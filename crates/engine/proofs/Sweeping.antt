@@ -1,13 +1,13 @@
 -- A sweep from the last place of a log to the first. At each turn either less is over than at the beginning, or something
 -- lacks at a place not yet swept; the rooms to those places, and what is over at the starts among them, are still there.
-use Prim.Native.Nat.{ℕ, suc, _+_, _^_, _≤_, _<_}
-use mathlib.Core.Path.{_≡_, refl, sym, ap, subst, _∙_}
+use Prim.Native.Nat.{ℕ, suc, _+_, _≤_, _<_}
+use mathlib.Core.Path.{_≡_, refl, sym, subst, _∙_}
 use mathlib.Core.Bool.{Bool, true}
 use mathlib.Core.List.{List}
 use mathlib.Core.Logic.{_⊎_, inl, inr, ⊎-elim, by-cases}
 use native.Mathlib.Omega.{arith}
 use native.Mathlib.Decide.{ℕ-discrete, decLt}
-use Rattle.numbers.specs.Sums.{sum, sum-in, put}
+use Rattle.numbers.specs.Sums.{sum, put}
 use Rattle.numbers.proofs.Sums.{sum-le, sum-member, sum-in-put, put-elsewhere}
 use Rattle.engine.specs.Room.{Small, Kept, Lent, SameLengths}
 use Rattle.engine.specs.Sweep.{Turned, Trail, OffTrail, FirstLack}
@@ -58,6 +58,10 @@ desk-still same d = record {
 }
 
 -- two numbers of a sum are together at most the sum
+-- a length that stays has room for as many
+pub still-fits : {n a b : ℕ} → a ≡ b → n ≤ b → n ≤ a
+still-fits same fits = omega arith
+
 pub two-members : (n : ℕ) (u : ℕ → ℕ) (x y : ℕ) → x < n → y < n → (x ≡ y → ⊥) → u x + u y ≤ sum n u
 two-members n u x y lx ly ne = omega (
   arith,

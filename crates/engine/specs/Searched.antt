@@ -1,6 +1,5 @@
 -- What a search leaves: marks that stand for the reach, and the log of how it was found.
 use Prim.Native.Nat.{ℕ, _≤_, _<_}
-use mathlib.Core.Path.{_≡_}
 use mathlib.Core.List.{List}
 use lib.ListN.{length}
 use Rattle.engine.specs.Room.{at}

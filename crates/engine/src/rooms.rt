@@ -1,7 +1,7 @@
 // The rooms between nodes, in rows: how much can still move from one node to another. What is moved
 // keeps every account (specs/Room).
 ghost use mathlib.Core.Path.{_≡_};
-ghost use Prim.Native.Nat.{ℕ, _+_, _*_, _^_, _≤_, _<_};
+ghost use Prim.Native.Nat.{_+_, _*_, _^_, _≤_, _<_};
 ghost use lib.ListN.{length};
 ghost use Rattle.engine.specs.Room.{side, cell, at, seen};
 ghost use Rattle.engine.specs.Move.{Pushed, Handed, Less};

@@ -1,7 +1,7 @@
 // Settling: searches and sweeps by turns, until nothing that is over can reach what lacks.
+use crate::rooms::Rooms;
 use crate::search::search;
 use crate::sweep::sweep;
-ghost use mathlib.Core.Path.{_≡_};
 ghost use Prim.Native.Nat.{ℕ, _≤_, _<_};
 ghost use lib.ListN.{length};
 ghost use Rattle.engine.specs.Room.{at, seen, Small, Lent};
@@ -25,11 +25,8 @@ fn first_lack(under: &[u32], order: &[usize], count: usize) -> usize
     j
 }
 
-// Moves what is over to what lacks, through the rooms and without the direct step from u to v, until
-// nothing more can move. The marks then hold the reach of what is still over. Looked at backwards, what
-// is over and what lacks change places with each other and each room with the room back: the caller
-// lends them so.
-pub fn settle(
+// Settles on a desk that is lent: room for the search's order and finders.
+fn settle_on(
     rooms: &mut [u32],
     back: bool,
     over: &mut [u32],
@@ -55,4 +52,39 @@ pub fn settle(
         }
         sweep(rooms, back, over, under, n, order, finder, starts, count);
     }
+}
+
+// Moves what is over to what lacks, through the rooms and without the direct step from u to v, until
+// nothing more can move. The marks then hold the reach of what is still over. Looked at backwards, what
+// is over and what lacks change places with each other and each room with the room back: the caller
+// lends them so.
+pub fn settle(
+    rooms: &mut [u32],
+    back: bool,
+    over: &mut [u32],
+    under: &mut [u32],
+    n: usize,
+    u: usize,
+    v: usize,
+    marks: &mut [u8],
+)
+    requires lent { ⌜ Lent n (now rooms) (now over) (now under) ⌝ }
+    requires small { ⌜ Small n (seen (now rooms) back) (at (now under)) ⌝ }
+    requires marks { ⌜ n ≤ length (now marks) ⌝ }
+    ensures { λ r. ⌜ Settled n (seen (now (rooms .entry)) back) (at (now (over .entry))) (at (now (under .entry))) (seen (now (rooms .exit)) back) (at (now (over .exit))) (at (now (under .exit))) u v (now (marks .exit)) ⌝ }
+{
+    let mut order = [0usize; Rooms::SIDE];
+    let mut finder = [0usize; Rooms::SIDE];
+    settle_on(
+        rooms,
+        back,
+        over,
+        under,
+        n,
+        u,
+        v,
+        marks,
+        &mut order,
+        &mut finder,
+    );
 }

@@ -10,11 +10,12 @@ use Rattle.plan.specs.Plan.{Plan, WellFormed}
 use Rattle.plan.specs.Flow.{Flow}
 use Rattle.plan.specs.Keeping.{SameNetwork, Keeps}
 use Rattle.plan.specs.declared.Verdict.the-variants.{Accepted}
+use Rattle.plan.proofs.Checked.{accepted-plan}
 use Rattle.plan.proofs.Demand3.{keeps-alike, demand-3-no}
 use Rattle.flow.specs.Answer.{number, judged, FlowAnswers}
 use Rattle.flow.specs.declared.Answer.{Answer}
 use Rattle.flow.specs.declared.Answer.the-variants.{Short}
-use Rattle.flow.proofs.Unique.{well-formed, no-exactly-if-no-flow}
+use Rattle.flow.proofs.Unique.{no-exactly-if-no-flow}
 
 module _ (p q : Plan) {arcs nodes a n : List ℕ} {value : ℤ} (x : FlowAnswers p arcs nodes a n (Short value)) where
   pub no-outlives : WellFormed q → SameNetwork p q → Keeps p q (at a) → (f : ℕ → ℕ) → Flow q f → ⊥
@@ -27,4 +28,4 @@ module _ (p q : Plan) {arcs nodes a n : List ℕ} {value : ℤ} (x : FlowAnswers
   pub no-stays-no : SameNetwork p q → Keeps p q (at a) → {arcs₂ nodes₂ a₂ n₂ : List ℕ} (r : Answer)
       → judged q arcs₂ nodes₂ ≡ Accepted → FlowAnswers q arcs₂ nodes₂ a₂ n₂ r → number r ≡ 9
   no-stays-no same kept {arcs₂} {nodes₂} r e y =
-      no-exactly-if-no-flow q arcs₂ nodes₂ r e y .1 (no-outlives (well-formed q arcs₂ nodes₂ e) same kept)
+      no-exactly-if-no-flow q arcs₂ nodes₂ r e y .1 (no-outlives (accepted-plan q arcs₂ nodes₂ (q .arcs) (q .nodes) e) same kept)

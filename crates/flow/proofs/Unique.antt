@@ -8,29 +8,22 @@ use lib.IntN.{ℤ}
 use lib.ListN.{length}
 use Rattle.numbers.specs.Sums.{only}
 use Rattle.engine.specs.Room.{at}
-use Rattle.plan.specs.Plan.{Plan, Set, WellFormed}
+use Rattle.plan.specs.Plan.{Plan}
 use Rattle.plan.specs.Flow.{Flow}
-use Rattle.plan.specs.Reason.{no-marks}
-use Rattle.plan.specs.Verdict.{lent-short}
 use Rattle.plan.specs.declared.Verdict.the-variants.{Accepted}
-use Rattle.plan.proofs.Refusals.{accepted-or-refused, accepted-well-formed}
+use Rattle.plan.proofs.Refusals.{accepted-or-refused}
+use Rattle.plan.proofs.Checked.{accepted-plan}
 use Rattle.plan.proofs.Unique.{first-flow-unique, shortage-unique, short-by-unique, short-or-flow}
+use Rattle.plan.proofs.EitherEnd.{no-marks-alike}
 use Rattle.stand.proofs.Writing.{alike, written-unique}
-use Rattle.flow.specs.Answer.{number, judged, Flowing, Lacking, FlowAnswers}
+use Rattle.flow.specs.Answer.{number, judged, Lacking, FlowAnswers}
 use Rattle.flow.specs.declared.Answer.{Answer}
 use Rattle.flow.specs.declared.Answer.the-variants.{Runs, Short, Refused}
 
--- what two sets of the same nodes cite is the same
-marks-alike : (p : Plan) → WellFormed p → (S R : Set) → ((v : ℕ) → v < p .nodes → S v ≡ R v)
-    → (j : ℕ) → j < p .arcs → no-marks p S j ≡ no-marks p R j
-marks-alike p w S R same j l = rw (same (p .from j) (w .from-node j l), same (p .to j) (w .to-node j l))
-
 module _ (p : Plan) (arcs nodes : List ℕ) where
-  pub well-formed : judged p arcs nodes ≡ Accepted → WellFormed p
-  well-formed = accepted-well-formed p (lent-short arcs (p .arcs) nodes (p .nodes))
-
-  flow-or-lack : {v : ℤ} {a a′ n′ : List ℕ} → judged p arcs nodes ≡ Accepted → Flowing p arcs a → Lacking p v arcs nodes a′ n′ → ⊥
-  flow-or-lack e f l = short-or-flow (well-formed e) (l .short) (f .first .flow)
+  -- a plan that is short has no flow
+  flow-or-lack : judged p arcs nodes ≡ Accepted → {f : ℕ → ℕ} → Flow p f → {v : ℤ} {a n : List ℕ} → Lacking p v arcs nodes a n → ⊥
+  flow-or-lack e c lack = short-or-flow (accepted-plan p arcs nodes (p .arcs) (p .nodes) e) (lack .short) c
 
   -- two "no"s name the same shortfall and set
   module _ {v v′ : ℤ} {a n a′ n′ : List ℕ} (e : judged p arcs nodes ≡ Accepted)
@@ -45,7 +38,9 @@ module _ (p : Plan) (arcs nodes : List ℕ) where
     same-nodes l l′ = written-unique l l′ (λ u lu. ap (λ t. only t 1) (same-set u lu)) (x .node-marks) (y .node-marks)
 
     same-arcs : length a ≡ length arcs → length a′ ≡ length arcs → a ≡ a′
-    same-arcs l l′ = written-unique l l′ (marks-alike p (well-formed e) (x .set) (y .set) same-set) (x .arc-marks) (y .arc-marks)
+    same-arcs l l′ = written-unique l l′
+        (no-marks-alike p (accepted-plan p arcs nodes (p .arcs) (p .nodes) e) (x .set) (y .set) same-set)
+        (x .arc-marks) (y .arc-marks)
 
   pub flow-answers-unique : {a n a′ n′ : List ℕ} (r r′ : Answer)
       → FlowAnswers p arcs nodes a n r → FlowAnswers p arcs nodes a′ n′ r′ → (r ≡ r′) × (a ≡ a′) × (n ≡ n′)
@@ -56,9 +51,9 @@ module _ (p : Plan) (arcs nodes : List ℕ) where
         (x .says .1 .0 .past) (y .says .1 .0 .past),
     x .says .1 .1 ∙ sym (y .says .1 .1),
   )
-  flow-answers-unique Runs (Short v) x y = absurd (flow-or-lack (x .says .0) (x .says .1 .0) (y .says .1))
+  flow-answers-unique Runs (Short v) x y = absurd (flow-or-lack (x .says .0) (x .says .1 .0 .first .flow) (y .says .1))
   flow-answers-unique Runs (Refused m i) x y = absurd (accepted-or-refused (x .says .0) (y .says .0))
-  flow-answers-unique (Short v) Runs x y = absurd (flow-or-lack (y .says .0) (y .says .1 .0) (x .says .1))
+  flow-answers-unique (Short v) Runs x y = absurd (flow-or-lack (y .says .0) (y .says .1 .0 .first .flow) (x .says .1))
   flow-answers-unique (Short v) (Short v′) x y = (
     ap Short (same-value (x .says .0) (x .says .1) (y .says .1)),
     same-arcs (x .says .0) (x .says .1) (y .says .1) (x .arcs-length) (y .arcs-length),
@@ -77,5 +72,5 @@ module _ (p : Plan) (arcs nodes : List ℕ) where
   pub no-exactly-if-no-flow : {a n : List ℕ} (r : Answer) → judged p arcs nodes ≡ Accepted → FlowAnswers p arcs nodes a n r
       → (number r ≡ 9) ↔ ((f : ℕ → ℕ) → Flow p f → ⊥)
   no-exactly-if-no-flow {a} Runs e x = (λ no. absurd (omega arith), λ none. absurd (none (at a) (x .says .1 .0 .first .flow)))
-  no-exactly-if-no-flow (Short v) e x = (λ no f c. short-or-flow (well-formed e) (x .says .1 .short) c, λ none. refl)
+  no-exactly-if-no-flow (Short v) e x = (λ no f c. flow-or-lack e c (x .says .1), λ none. refl)
   no-exactly-if-no-flow (Refused m i) e x = absurd (accepted-or-refused e (x .says .0))

@@ -2,7 +2,7 @@
 use Prim.Native.Nat.{ℕ, _≤_}
 use mathlib.Core.Path.{_≡_}
 use mathlib.Core.List.{List}
-use lib.IntN.{ℤ}
+use lib.IntN.{ℤ, pos}
 use lib.ListN.{length}
 use Rattle.numbers.specs.Sums.{only}
 use Rattle.engine.specs.Room.{at}
@@ -24,6 +24,18 @@ abbrev pub number : Answer → ℕ
 number Runs = 0
 number (Short value) = 9
 number (Refused n place) = n
+
+-- the place that goes with it, or 0
+abbrev pub place : Answer → ℕ
+place Runs = 0
+place (Short value) = 0
+place (Refused n i) = i
+
+-- the value that it carries, or 0
+abbrev pub carried : Answer → ℤ
+carried Runs = pos 0
+carried (Short value) = value
+carried (Refused n i) = pos 0
 
 -- the answer to a plan that was asked
 abbrev pub answer-to : Asked → Answer

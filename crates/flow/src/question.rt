@@ -15,7 +15,6 @@ ghost use mathlib.Core.Path.{_≡_};
 ghost use Prim.Native.Nat.{ℕ, _≤_, _/_};
 ghost use lib.ListN.{length};
 ghost use Rattle.engine.specs.Room.{at, Lent};
-ghost use Rattle.engine.specs.Searched.{Desk};
 ghost use Rattle.plan.specs.Limits.{arc-entries};
 ghost use Rattle.plan.specs.Plan.{WellFormed, plan-of};
 ghost use Rattle.flow.specs.Answer.{Told, FlowAnswers};
@@ -30,17 +29,15 @@ fn work_out_on(
     over: &mut [u32],
     under: &mut [u32],
     marks: &mut [u8],
-    order: &mut [usize],
-    finder: &mut [usize],
 ) -> Asked
     requires plan { ⌜ WellFormed (plan-of (now arcs) (now supplies)) ⌝ }
     requires whole { ⌜ (length (now arcs) / arc-entries ≤ length (now «arc_buffer»)) × (length (now supplies) ≤ length (now «node_buffer»)) ⌝ }
     requires lent { ⌜ Lent (length (now supplies)) (now rooms) (now over) (now under) ⌝ }
     requires empty { ⌜ ((i : ℕ) → (at (now rooms) i ≡ 0) × (at (now over) i ≡ 0) × (at (now under) i ≡ 0)) ⌝ }
-    requires desk { ⌜ Desk (length (now supplies)) (now marks) (now order) (now finder) ⌝ }
+    requires marks { ⌜ length (now supplies) ≤ length (now marks) ⌝ }
     ensures { λ r. ⌜ Told (plan-of (now (arcs .entry)) (now (supplies .entry))) (now («arc_buffer» .entry)) (now («node_buffer» .entry)) (now («arc_buffer» .exit)) (now («node_buffer» .exit)) r ⌝ }
 {
-    let asked = ask(arcs, supplies, rooms, over, under, marks, order, finder);
+    let asked = ask(arcs, supplies, rooms, over, under, marks);
     let Asked::Lacks(value) = asked else {
         first_flow(
             arcs,
@@ -52,8 +49,6 @@ fn work_out_on(
             over,
             under,
             marks,
-            order,
-            finder,
         );
         return Asked::Balances;
     };
@@ -72,8 +67,6 @@ fn work_out(arcs: &[u32], supplies: &[i32], arc_buffer: &mut [u32], node_buffer:
     let mut over = [0u32; Plan::MOST_NODES];
     let mut under = [0u32; Plan::MOST_NODES];
     let mut marks = [0u8; Plan::MOST_NODES];
-    let mut order = [0usize; Plan::MOST_NODES];
-    let mut finder = [0usize; Plan::MOST_NODES];
     work_out_on(
         arcs,
         supplies,
@@ -83,8 +76,6 @@ fn work_out(arcs: &[u32], supplies: &[i32], arc_buffer: &mut [u32], node_buffer:
         &mut over,
         &mut under,
         &mut marks,
-        &mut order,
-        &mut finder,
     )
 }
 

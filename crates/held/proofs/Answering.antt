@@ -1,4 +1,4 @@
--- From what was asked to what is told: a "no" leaves everything as it was; else the plan stands ready and the arc is held.
+-- What the check's verdict says of a request, what a count says against the narrowed range, and what an accepted request is told.
 use Prim.Native.Nat.{ℕ, _≤_, _<_}
 use mathlib.Core.Path.{_≡_, refl, sym}
 use mathlib.Core.Bool.{Bool, true, false, _||_}
@@ -8,7 +8,6 @@ use native.Mathlib.Omega.{arith}
 use lib.Dec.{leb, ltb}
 use lib.ListN.{length}
 use borrow.Author.Tests.{ltb-true, ltb-false, leb-false}
-use Rattle.engine.specs.Reach.{marked}
 use Rattle.plan.specs.Plan.{Plan, WellFormed}
 use Rattle.plan.specs.Flow.{Smallest, Largest, OutsideRange}
 use Rattle.plan.specs.Verdict.{verdict, asking-rules}
@@ -16,23 +15,10 @@ use Rattle.plan.specs.declared.Verdict.{Verdict}
 use Rattle.plan.specs.declared.Verdict.the-variants.{Accepted}
 use Rattle.plan.proofs.Between.{between-occurs}
 use Rattle.plan.proofs.Refusals.{asking-accepted, accepted-well-formed, accepted-buffers-fit, neither}
-use Rattle.stand.specs.Ask.{AskedOf}
-use Rattle.stand.specs.State.{Ready, Possible}
-use Rattle.stand.specs.declared.Asked.{Asked}
-use Rattle.stand.specs.declared.Asked.the-variants.{Balances, Lacks}
-use Rattle.held.specs.Answer.{answer-to, judged, Told, Says}
+use Rattle.stand.specs.State.{Possible}
+use Rattle.held.specs.Answer.{judged, Told, Says}
 use Rattle.held.specs.declared.Answer.{Answer}
 use Rattle.held.specs.declared.Answer.the-variants.{Runs, Short, Outside, Refused}
-
-module _ {p : Plan} {room : ℕ → ℕ → ℕ} {over under : ℕ → ℕ} {marks : List ℕ} where
-  pub asked-no : (asked : Asked) → AskedOf p room over under marks asked → {r : Answer} → r ≡ answer-to asked → (r ≡ Runs → ⊥)
-      → (k count : ℕ) (arcs : List ℕ) → Told p k count arcs arcs r
-  asked-no Balances a e never k count arcs = absurd (never e)
-  asked-no (Lacks value) a e never k count arcs = rw e ((marked marks, a .lacks value refl .short), refl)
-
-  pub asked-ready : (asked : Asked) → AskedOf p room over under marks asked → Runs ≡ answer-to asked → Ready p room over under
-  asked-ready Balances a e = a .balances refl
-  asked-ready (Lacks value) a e = let clash : _≡_ {A = ℕ} 0 1 = cc in absurd (omega arith)
 
 -- a count outside the narrowed range, by the code's two tests; and one inside, which some flow has
 module _ {p : Plan} {k low high : ℕ} (s : Smallest p k low) (g : Largest p k high) (count : ℕ) where

@@ -1,32 +1,31 @@
 -- For every input the promise of an arc held at a count admits one answer and one content of the buffer: there is one first flow
 -- with the count, a count that occurs is not outside the narrowed range, and a plan that is short has no flow.
-use Prim.Native.Nat.{ℕ}
+use Prim.Native.Nat.{ℕ, _≤_}
 use mathlib.Core.Path.{_≡_, refl, sym, ap, _∙_}
 use mathlib.Core.List.{List}
 use mathlib.Core.Logic.{_↔_}
 use native.Mathlib.Omega.{arith}
-use lib.Dec.{leb, ltb}
 use lib.IntN.{ℤ}
-use lib.ListN.{length}
 use Rattle.engine.specs.Room.{at}
 use Rattle.plan.specs.Plan.{Plan, Set}
-use Rattle.plan.specs.Flow.{Flow, Occurs, FirstWith}
+use Rattle.plan.specs.Flow.{Flow, Occurs, Narrowed, FirstWith}
 use Rattle.plan.specs.Shortage.{ShortBy}
 use Rattle.plan.specs.declared.Verdict.the-variants.{Accepted}
-use Rattle.plan.proofs.Refusals.{accepted-or-refused, accepted-well-formed, asking-accepted}
+use Rattle.plan.proofs.Refusals.{accepted-or-refused}
+use Rattle.plan.proofs.Ends.{smallest-least, largest-most}
+use Rattle.plan.proofs.Between.{every-count-occurs}
 use Rattle.plan.proofs.Unique.{short-by-unique, short-or-flow}
 use Rattle.plan.proofs.HeldCounts.{first-with-unique, outside-never}
 use Rattle.stand.proofs.Writing.{alike}
 use Rattle.held.specs.Answer.{number, judged, HeldAnswers}
 use Rattle.held.specs.declared.Answer.{Answer}
 use Rattle.held.specs.declared.Answer.the-variants.{Runs, Short, Outside, Refused}
+use Rattle.held.proofs.Answering.{request-accepted}
 
 module _ (p : Plan) (arc count : ℕ) (arcs : List ℕ) where
   -- a plan that is short has no flow
   flow-or-short : judged p arc arcs ≡ Accepted → {f : ℕ → ℕ} → Flow p f → {value : ℤ} → (S : Set) × ShortBy p value S → ⊥
-  flow-or-short e c short =
-      let lent = ltb (length arcs) (p .arcs) in
-      short-or-flow (accepted-well-formed p lent (asking-accepted p lent (leb (p .arcs) arc) e .0)) (short .1) c
+  flow-or-short e c short = short-or-flow (request-accepted p arc arcs e .0) (short .1) c
 
   -- a first flow with the count has the count
   first-occurs : {f : ℕ → ℕ} → FirstWith p arc count f → Occurs p arc count
@@ -66,3 +65,23 @@ module _ (p : Plan) (arc count : ℕ) (arcs : List ℕ) where
   held-exactly-if-occurs (Short v) e x = (λ yes. absurd (omega arith), λ o. absurd (flow-or-short e (o .flow) (x .says .1 .0)))
   held-exactly-if-occurs Outside e x = (λ yes. absurd (omega arith), λ o. absurd (outside-never (x .says .1 .0) o))
   held-exactly-if-occurs (Refused m i) e x = absurd (accepted-or-refused e (x .says .0))
+
+  -- so exactly if the count lies in the arc's narrowed range
+  pub held-exactly-in-range : {a : List ℕ} (r : Answer) → judged p arc arcs ≡ Accepted → HeldAnswers p arc count arcs a r
+      → {low high : ℕ} → Narrowed p arc low high → (number r ≡ 0) ↔ ((low ≤ count) × (count ≤ high))
+  held-exactly-in-range r e x {low} {high} n =
+      let (to, back) = held-exactly-if-occurs r e x in
+      let (w, (there, fits)) = request-accepted p arc arcs e in (
+        λ yes. (smallest-least (n .low-end) (to yes), largest-most (n .high-end) (to yes)),
+        λ inside. back (every-count-occurs p w arc there low high n count (inside .0) (inside .1)),
+      )
+
+  -- it gets number 9 exactly if no flow exists
+  pub held-no-exactly-if-no-flow : {a : List ℕ} (r : Answer) → judged p arc arcs ≡ Accepted → HeldAnswers p arc count arcs a r
+      → (number r ≡ 9) ↔ ((f : ℕ → ℕ) → Flow p f → ⊥)
+  held-no-exactly-if-no-flow {a} Runs e x = (λ no. absurd (omega arith), λ none. absurd (none (at a) (x .says .1 .first .flow)))
+  held-no-exactly-if-no-flow (Short v) e x = (λ no f c. flow-or-short e c (x .says .1 .0), λ none. refl)
+  held-no-exactly-if-no-flow Outside e x =
+      let o = x .says .1 .0 .narrowed .low-end .occurs in
+      (λ no. absurd (omega arith), λ none. absurd (none (o .counts) (o .flow)))
+  held-no-exactly-if-no-flow (Refused m i) e x = absurd (accepted-or-refused e (x .says .0))

@@ -24,6 +24,20 @@ number (Short value) = 9
 number Outside = 10
 number (Refused n place) = n
 
+-- the place that goes with it, or 0
+abbrev pub place : Answer → ℕ
+place Runs = 0
+place (Short value) = 0
+place Outside = 0
+place (Refused n i) = i
+
+-- the value that it carries, or 0
+abbrev pub carried : Answer → ℤ
+carried Runs = pos 0
+carried (Short value) = value
+carried Outside = pos 0
+carried (Refused n i) = pos 0
+
 -- the answer to a plan that was asked, before an arc is held
 abbrev pub answer-to : Asked → Answer
 answer-to Balances = Runs

@@ -4,6 +4,7 @@ use engine::rooms::Rooms;
 use plan::Plan;
 use plan::Verdict;
 use plan::network::check_asked;
+use stand::Asked;
 use stand::ask::ask;
 use stand::build::arc_at;
 use stand::counts::hold_at;
@@ -15,7 +16,6 @@ ghost use Prim.Native.Nat.{ℕ, _≤_, _<_, _/_};
 ghost use lib.Dec.{ltb};
 ghost use lib.ListN.{length};
 ghost use Rattle.engine.specs.Room.{at, seen, Lent};
-ghost use Rattle.engine.specs.Searched.{Desk};
 ghost use Rattle.plan.specs.Limits.{arc-entries};
 ghost use Rattle.plan.specs.Plan.{WellFormed, plan-of};
 ghost use Rattle.plan.specs.Flow.{OutsideRange, held};
@@ -42,13 +42,11 @@ fn hold_arc(
     over: &mut [u32],
     under: &mut [u32],
     marks: &mut [u8],
-    order: &mut [usize],
-    finder: &mut [usize],
 )
     requires plan { ⌜ WellFormed (plan-of (now arcs) (now supplies)) ⌝ }
     requires arc { ⌜ k < length (now arcs) / arc-entries ⌝ }
     requires lent { ⌜ Lent (length (now supplies)) (now rooms) (now over) (now under) ⌝ }
-    requires desk { ⌜ Desk (length (now supplies)) (now marks) (now order) (now finder) ⌝ }
+    requires marks { ⌜ length (now supplies) ≤ length (now marks) ⌝ }
     requires ready { ⌜ Ready (plan-of (now arcs) (now supplies)) (seen (now rooms) false) (at (now over)) (at (now under)) ⌝ }
     requires possible { ⌜ Possible (plan-of (now arcs) (now supplies)) k count ⌝ }
     ensures { λ r. ⌜ Ready (held (plan-of (now (arcs .entry)) (now (supplies .entry))) k count) (seen (now (rooms .exit)) false) (at (now (over .exit))) (at (now (under .exit))) ⌝ }
@@ -68,8 +66,6 @@ fn hold_arc(
         arc.high,
         count,
         marks,
-        order,
-        finder,
     );
 }
 
@@ -83,42 +79,18 @@ fn out_of_range(
     over: &mut [u32],
     under: &mut [u32],
     marks: &mut [u8],
-    order: &mut [usize],
-    finder: &mut [usize],
 ) -> bool
     requires plan { ⌜ WellFormed (plan-of (now arcs) (now supplies)) ⌝ }
     requires arc { ⌜ k < length (now arcs) / arc-entries ⌝ }
     requires lent { ⌜ Lent (length (now supplies)) (now rooms) (now over) (now under) ⌝ }
-    requires desk { ⌜ Desk (length (now supplies)) (now marks) (now order) (now finder) ⌝ }
+    requires marks { ⌜ length (now supplies) ≤ length (now marks) ⌝ }
     requires ready { ⌜ Ready (plan-of (now arcs) (now supplies)) (seen (now rooms) false) (at (now over)) (at (now under)) ⌝ }
     ensures outside { λ r. ⌜ (r ≡ true → OutsideRange (plan-of (now (arcs .entry)) (now (supplies .entry))) k count) ⌝ }
     ensures possible { λ r. ⌜ (r ≡ false → Possible (plan-of (now (arcs .entry)) (now (supplies .entry))) k count) ⌝ }
     ensures ready { λ r. ⌜ Ready (plan-of (now (arcs .entry)) (now (supplies .entry))) (seen (now (rooms .exit)) false) (at (now (over .exit))) (at (now (under .exit))) ⌝ }
 {
-    let low = end_for(
-        arcs,
-        supplies,
-        k,
-        false,
-        rooms,
-        over,
-        under,
-        marks,
-        order,
-        finder,
-    );
-    let high = end_for(
-        arcs,
-        supplies,
-        k,
-        true,
-        rooms,
-        over,
-        under,
-        marks,
-        order,
-        finder,
-    );
+    let low = end_for(arcs, supplies, k, false, rooms, over, under, marks);
+    let high = end_for(arcs, supplies, k, true, rooms, over, under, marks);
     outside(count, low, high)
 }
 
@@ -133,30 +105,17 @@ fn write_held(
     over: &mut [u32],
     under: &mut [u32],
     marks: &mut [u8],
-    order: &mut [usize],
-    finder: &mut [usize],
 )
     requires plan { ⌜ WellFormed (plan-of (now arcs) (now supplies)) ⌝ }
     requires arc { ⌜ k < length (now arcs) / arc-entries ⌝ }
     requires whole { ⌜ length (now arcs) / arc-entries ≤ length (now «arc_buffer») ⌝ }
     requires lent { ⌜ Lent (length (now supplies)) (now rooms) (now over) (now under) ⌝ }
-    requires desk { ⌜ Desk (length (now supplies)) (now marks) (now order) (now finder) ⌝ }
+    requires marks { ⌜ length (now supplies) ≤ length (now marks) ⌝ }
     requires ready { ⌜ Ready (plan-of (now arcs) (now supplies)) (seen (now rooms) false) (at (now over)) (at (now under)) ⌝ }
     requires possible { ⌜ Possible (plan-of (now arcs) (now supplies)) k count ⌝ }
     ensures { λ r. ⌜ Flowing (plan-of (now (arcs .entry)) (now (supplies .entry))) k count (now («arc_buffer» .entry)) (now («arc_buffer» .exit)) ⌝ }
 {
-    hold_arc(
-        arcs,
-        supplies,
-        k,
-        count,
-        rooms,
-        over,
-        under,
-        marks,
-        order,
-        finder,
-    );
+    hold_arc(arcs, supplies, k, count, rooms, over, under, marks);
     first_flow(
         arcs,
         supplies,
@@ -167,8 +126,6 @@ fn write_held(
         over,
         under,
         marks,
-        order,
-        finder,
     );
 }
 
@@ -183,29 +140,16 @@ fn hold_and_write(
     over: &mut [u32],
     under: &mut [u32],
     marks: &mut [u8],
-    order: &mut [usize],
-    finder: &mut [usize],
 ) -> Answer
     requires plan { ⌜ WellFormed (plan-of (now arcs) (now supplies)) ⌝ }
     requires arc { ⌜ k < length (now arcs) / arc-entries ⌝ }
     requires whole { ⌜ length (now arcs) / arc-entries ≤ length (now «arc_buffer») ⌝ }
     requires lent { ⌜ Lent (length (now supplies)) (now rooms) (now over) (now under) ⌝ }
-    requires desk { ⌜ Desk (length (now supplies)) (now marks) (now order) (now finder) ⌝ }
+    requires marks { ⌜ length (now supplies) ≤ length (now marks) ⌝ }
     requires ready { ⌜ Ready (plan-of (now arcs) (now supplies)) (seen (now rooms) false) (at (now over)) (at (now under)) ⌝ }
     ensures { λ r. ⌜ Told (plan-of (now (arcs .entry)) (now (supplies .entry))) k count (now («arc_buffer» .entry)) (now («arc_buffer» .exit)) r ⌝ }
 {
-    if out_of_range(
-        arcs,
-        supplies,
-        k,
-        count,
-        rooms,
-        over,
-        under,
-        marks,
-        order,
-        finder,
-    ) {
+    if out_of_range(arcs, supplies, k, count, rooms, over, under, marks) {
         return Answer::Outside;
     }
     write_held(
@@ -218,8 +162,6 @@ fn hold_and_write(
         over,
         under,
         marks,
-        order,
-        finder,
     );
     Answer::Runs
 }
@@ -235,20 +177,18 @@ fn work_out_on(
     over: &mut [u32],
     under: &mut [u32],
     marks: &mut [u8],
-    order: &mut [usize],
-    finder: &mut [usize],
 ) -> Answer
     requires plan { ⌜ WellFormed (plan-of (now arcs) (now supplies)) ⌝ }
     requires arc { ⌜ k < length (now arcs) / arc-entries ⌝ }
     requires whole { ⌜ length (now arcs) / arc-entries ≤ length (now «arc_buffer») ⌝ }
     requires lent { ⌜ Lent (length (now supplies)) (now rooms) (now over) (now under) ⌝ }
     requires empty { ⌜ ((i : ℕ) → (at (now rooms) i ≡ 0) × (at (now over) i ≡ 0) × (at (now under) i ≡ 0)) ⌝ }
-    requires desk { ⌜ Desk (length (now supplies)) (now marks) (now order) (now finder) ⌝ }
+    requires marks { ⌜ length (now supplies) ≤ length (now marks) ⌝ }
     ensures { λ r. ⌜ Told (plan-of (now (arcs .entry)) (now (supplies .entry))) k count (now («arc_buffer» .entry)) (now («arc_buffer» .exit)) r ⌝ }
 {
-    let asked = Answer::to(ask(arcs, supplies, rooms, over, under, marks, order, finder));
-    let Answer::Runs = asked else {
-        return asked;
+    let asked = ask(arcs, supplies, rooms, over, under, marks);
+    let Asked::Balances = asked else {
+        return Answer::to(asked);
     };
     hold_and_write(
         arcs,
@@ -260,8 +200,6 @@ fn work_out_on(
         over,
         under,
         marks,
-        order,
-        finder,
     )
 }
 
@@ -276,8 +214,6 @@ fn work_out(arcs: &[u32], supplies: &[i32], k: usize, count: u32, arc_buffer: &m
     let mut over = [0u32; Plan::MOST_NODES];
     let mut under = [0u32; Plan::MOST_NODES];
     let mut marks = [0u8; Plan::MOST_NODES];
-    let mut order = [0usize; Plan::MOST_NODES];
-    let mut finder = [0usize; Plan::MOST_NODES];
     work_out_on(
         arcs,
         supplies,
@@ -288,8 +224,6 @@ fn work_out(arcs: &[u32], supplies: &[i32], k: usize, count: u32, arc_buffer: &m
         &mut over,
         &mut under,
         &mut marks,
-        &mut order,
-        &mut finder,
     )
 }
 

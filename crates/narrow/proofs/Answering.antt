@@ -5,7 +5,7 @@ use mathlib.Core.Bool.{true, false}
 use mathlib.Core.List.{List}
 use Rattle.engine.specs.Room.{at}
 use Rattle.plan.specs.Plan.{Plan, WellFormed}
-use Rattle.plan.specs.Flow.{Flow, Narrowed}
+use Rattle.plan.specs.Flow.{Narrowed}
 use Rattle.plan.specs.Reason.{NarrowedEnd}
 use Rattle.plan.specs.declared.Verdict.the-variants.{Accepted}
 use Rattle.plan.proofs.Between.{every-count-occurs}

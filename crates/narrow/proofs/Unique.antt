@@ -5,11 +5,13 @@ use mathlib.Core.Path.{_≡_, refl, sym, ap, _∙_}
 use mathlib.Core.List.{List}
 use mathlib.Core.Logic.{_↔_}
 use native.Mathlib.Omega.{arith}
-use Rattle.plan.specs.Plan.{Plan, WellFormed}
+use lib.IntN.{ℤ}
+use Rattle.plan.specs.Plan.{Plan, Set}
 use Rattle.plan.specs.Flow.{Flow}
-use Rattle.plan.specs.Verdict.{lent-short}
+use Rattle.plan.specs.Shortage.{ShortBy}
 use Rattle.plan.specs.declared.Verdict.the-variants.{Accepted}
-use Rattle.plan.proofs.Refusals.{accepted-or-refused, accepted-well-formed}
+use Rattle.plan.proofs.Refusals.{accepted-or-refused}
+use Rattle.plan.proofs.Checked.{accepted-plan}
 use Rattle.plan.proofs.Unique.{narrowed-unique, short-by-unique, short-or-flow}
 use Rattle.stand.proofs.Writing.{alike}
 use Rattle.flow.specs.Answer.{number}
@@ -18,8 +20,9 @@ use Rattle.flow.specs.declared.Answer.the-variants.{Runs, Short, Refused}
 use Rattle.narrow.specs.Answer.{judged, NarrowAnswers}
 
 module _ (p : Plan) (lows highs : List ℕ) where
-  well-formed : judged p lows highs ≡ Accepted → WellFormed p
-  well-formed = accepted-well-formed p (lent-short lows (p .arcs) highs (p .arcs))
+  -- a plan that is short has no flow
+  flow-or-short : judged p lows highs ≡ Accepted → {f : ℕ → ℕ} → Flow p f → {value : ℤ} → (S : Set) × ShortBy p value S → ⊥
+  flow-or-short e c short = short-or-flow (accepted-plan p lows highs (p .arcs) (p .arcs) e) (short .1) c
 
   pub narrow-answers-unique : {l h l′ h′ : List ℕ} (r r′ : Answer)
       → NarrowAnswers p lows highs l h r → NarrowAnswers p lows highs l′ h′ r′ → (r ≡ r′) × (l ≡ l′) × (h ≡ h′)
@@ -33,10 +36,10 @@ module _ (p : Plan) (lows highs : List ℕ) where
         (x .says .1 .highs-past) (y .says .1 .highs-past),
   )
   narrow-answers-unique Runs (Short v) x y =
-      absurd (short-or-flow (well-formed (x .says .0)) (y .says .1 .0 .1) (x .says .1 .has-flow .flow))
+      absurd (flow-or-short (x .says .0) (x .says .1 .has-flow .flow) (y .says .1 .0))
   narrow-answers-unique Runs (Refused m i) x y = absurd (accepted-or-refused (x .says .0) (y .says .0))
   narrow-answers-unique (Short v) Runs x y =
-      absurd (short-or-flow (well-formed (x .says .0)) (x .says .1 .0 .1) (y .says .1 .has-flow .flow))
+      absurd (flow-or-short (x .says .0) (y .says .1 .has-flow .flow) (x .says .1 .0))
   narrow-answers-unique (Short v) (Short v′) x y = (
     ap Short (short-by-unique (x .says .1 .0 .1) (y .says .1 .0 .1)),
     x .says .1 .1 ∙ sym (y .says .1 .1),
@@ -56,5 +59,5 @@ module _ (p : Plan) (lows highs : List ℕ) where
       → NarrowAnswers p lows highs l h r → (number r ≡ 9) ↔ ((f : ℕ → ℕ) → Flow p f → ⊥)
   narrow-no-exactly-if-no-flow Runs e x =
       (λ no. absurd (omega arith), λ none. absurd (none (x .says .1 .has-flow .counts) (x .says .1 .has-flow .flow)))
-  narrow-no-exactly-if-no-flow (Short v) e x = (λ no f c. short-or-flow (well-formed e) (x .says .1 .0 .1) c, λ none. refl)
+  narrow-no-exactly-if-no-flow (Short v) e x = (λ no f c. flow-or-short e c (x .says .1 .0), λ none. refl)
   narrow-no-exactly-if-no-flow (Refused m i) e x = absurd (accepted-or-refused e (x .says .0))

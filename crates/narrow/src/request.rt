@@ -14,7 +14,6 @@ ghost use mathlib.Core.Bool.{false};
 ghost use Prim.Native.Nat.{ℕ, _≤_, _<_, _/_};
 ghost use lib.ListN.{length};
 ghost use Rattle.engine.specs.Room.{at, seen, Lent};
-ghost use Rattle.engine.specs.Searched.{Desk};
 ghost use Rattle.plan.specs.Limits.{arc-entries};
 ghost use Rattle.plan.specs.Plan.{WellFormed, plan-of};
 ghost use Rattle.plan.specs.Reason.{NarrowedEnd};
@@ -32,12 +31,10 @@ fn write_ends(
     over: &mut [u32],
     under: &mut [u32],
     marks: &mut [u8],
-    order: &mut [usize],
-    finder: &mut [usize],
 )
     requires plan { ⌜ WellFormed (plan-of (now arcs) (now supplies)) ⌝ }
     requires lent { ⌜ Lent (length (now supplies)) (now rooms) (now over) (now under) ⌝ }
-    requires desk { ⌜ Desk (length (now supplies)) (now marks) (now order) (now finder) ⌝ }
+    requires marks { ⌜ length (now supplies) ≤ length (now marks) ⌝ }
     requires ready { ⌜ Ready (plan-of (now arcs) (now supplies)) (seen (now rooms) false) (at (now over)) (at (now under)) ⌝ }
     requires whole { ⌜ length (now arcs) / arc-entries ≤ length (now ends) ⌝ }
     ensures ends { λ r. ⌜ ((k : ℕ) → k < length (now (arcs .entry)) / arc-entries → NarrowedEnd (plan-of (now (arcs .entry)) (now (supplies .entry))) k upper (at (now (ends .exit)) k)) ⌝ }
@@ -47,18 +44,7 @@ fn write_ends(
     let count = arcs.len() / Arc::ENTRIES;
     let mut k = 0;
     while k < count {
-        ends[k] = end_for(
-            arcs,
-            supplies,
-            k,
-            upper,
-            rooms,
-            over,
-            under,
-            marks,
-            order,
-            finder,
-        );
+        ends[k] = end_for(arcs, supplies, k, upper, rooms, over, under, marks);
         k += 1;
     }
 }
@@ -73,44 +59,20 @@ fn work_out_on(
     over: &mut [u32],
     under: &mut [u32],
     marks: &mut [u8],
-    order: &mut [usize],
-    finder: &mut [usize],
 ) -> Asked
     requires plan { ⌜ WellFormed (plan-of (now arcs) (now supplies)) ⌝ }
     requires whole { ⌜ (length (now arcs) / arc-entries ≤ length (now lows)) × (length (now arcs) / arc-entries ≤ length (now highs)) ⌝ }
     requires lent { ⌜ Lent (length (now supplies)) (now rooms) (now over) (now under) ⌝ }
     requires empty { ⌜ ((i : ℕ) → (at (now rooms) i ≡ 0) × (at (now over) i ≡ 0) × (at (now under) i ≡ 0)) ⌝ }
-    requires desk { ⌜ Desk (length (now supplies)) (now marks) (now order) (now finder) ⌝ }
+    requires marks { ⌜ length (now supplies) ≤ length (now marks) ⌝ }
     ensures { λ r. ⌜ Told (plan-of (now (arcs .entry)) (now (supplies .entry))) (now (lows .entry)) (now (highs .entry)) (now (lows .exit)) (now (highs .exit)) r ⌝ }
 {
-    let asked = ask(arcs, supplies, rooms, over, under, marks, order, finder);
+    let asked = ask(arcs, supplies, rooms, over, under, marks);
     let Asked::Balances = asked else {
         return asked;
     };
-    write_ends(
-        arcs,
-        supplies,
-        false,
-        lows,
-        rooms,
-        over,
-        under,
-        marks,
-        order,
-        finder,
-    );
-    write_ends(
-        arcs,
-        supplies,
-        true,
-        highs,
-        rooms,
-        over,
-        under,
-        marks,
-        order,
-        finder,
-    );
+    write_ends(arcs, supplies, false, lows, rooms, over, under, marks);
+    write_ends(arcs, supplies, true, highs, rooms, over, under, marks);
     Asked::Balances
 }
 
@@ -124,8 +86,6 @@ fn work_out(arcs: &[u32], supplies: &[i32], lows: &mut [u32], highs: &mut [u32])
     let mut over = [0u32; Plan::MOST_NODES];
     let mut under = [0u32; Plan::MOST_NODES];
     let mut marks = [0u8; Plan::MOST_NODES];
-    let mut order = [0usize; Plan::MOST_NODES];
-    let mut finder = [0usize; Plan::MOST_NODES];
     work_out_on(
         arcs,
         supplies,
@@ -135,8 +95,6 @@ fn work_out(arcs: &[u32], supplies: &[i32], lows: &mut [u32], highs: &mut [u32])
         &mut over,
         &mut under,
         &mut marks,
-        &mut order,
-        &mut finder,
     )
 }
 

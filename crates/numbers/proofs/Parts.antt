@@ -10,14 +10,7 @@ use lib.Dec.{ltb, ltb→lt, leb→le, le→leb, lt→ltb}
 use lib.IntN.{ℤ, pos, negsuc, negℤ, natAbs, subℕ, _+ℤ_, _-ℤ_}
 use lib.Signed.{_≤ℤ_, _<ℤ_, mag}
 use borrow.Author.Tests.{ltb-true, ltb-false}
-
-abbrev pub plus : ℤ → ℕ
-plus (pos n) = n
-plus (negsuc n) = 0
-
-abbrev pub minus : ℤ → ℕ
-minus (pos n) = 0
-minus (negsuc n) = suc n
+use Rattle.numbers.specs.Parts.{plus, minus}
 
 -- one of the two is 0
 pub one-part : (z : ℤ) → min (plus z) (minus z) ≡ 0

@@ -11,7 +11,8 @@ use lib.Dec.{eqb}
 use lib.IntN.{ℤ, pos}
 use borrow.Author.Tests.{ne-eqb, eq-eqb}
 use Rattle.numbers.specs.Sums.{sum, sumℤ, only, onlyℤ, sum-in, sum-inℤ, put}
-use Rattle.numbers.proofs.Parts.{plus, minus, add}
+use Rattle.numbers.specs.Parts.{plus, minus}
+use Rattle.numbers.proofs.Parts.{add}
 
 -- ---- numbers and tests
 

@@ -9,13 +9,13 @@ use native.Mathlib.Nat.{le-refl}
 use lib.IntN.{pos}
 use lib.Signed.{_≤ℤ_}
 use Rattle.plan.specs.Plan.{Plan, Set, WellFormed}
-use Rattle.plan.specs.Flow.{Flow, Occurs, Smallest, Largest, Narrowed, held}
+use Rattle.plan.specs.Flow.{Flow, Occurs, Smallest, Largest, Narrowed, held, limited}
 use Rattle.plan.specs.Shortage.{leaves, enters, shortfall}
 use Rattle.plan.specs.Keeping.{RangesWithin}
 use Rattle.plan.proofs.Cut.{crosses-one-way, joined, flow-balance, balance-flow, wider-within, within-keeps, balance-leaves-no-shortfall}
 use Rattle.plan.proofs.Ends.{smallest-least, largest-most, held-occurs, held-keeps}
 use Rattle.plan.proofs.Hoffman.{hoffman}
-use Rattle.plan.proofs.Narrowing.{limited, limited-well-formed, held-well-formed}
+use Rattle.plan.proofs.Narrowing.{limited-well-formed, held-well-formed}
 
 -- a count that occurs on k and is at most x if k leaves the set, at least x if k enters it
 abbrev Across : Plan → (k x : ℕ) → Set → Type 0

@@ -13,7 +13,8 @@ use lib.IntN.{pos}
 use lib.Signed.{_<ℤ_}
 use borrow.Author.Tests.{ne-eqb}
 use Rattle.numbers.specs.Sums.{only, sum-in}
-use Rattle.numbers.proofs.Parts.{plus, minus, whole}
+use Rattle.numbers.specs.Parts.{plus, minus}
+use Rattle.numbers.proofs.Parts.{whole}
 use Rattle.numbers.proofs.Sums.{sum-same}
 use Rattle.plan.specs.Limits.{widest-low, widest-high}
 use Rattle.plan.specs.Plan.{Plan, Set, WellFormed}

@@ -12,23 +12,16 @@ use lib.Dec.{eqb, ltb}
 use lib.IntN.{ℤ}
 use borrow.Author.Tests.{eq-eqb, ne-eqb, ltb-true, ltb-false, lt-ltb, le-ltb}
 use Rattle.numbers.specs.Sums.{only, sum-in, put}
-use Rattle.numbers.proofs.Parts.{plus, minus, whole}
+use Rattle.numbers.specs.Parts.{plus, minus}
+use Rattle.numbers.proofs.Parts.{whole}
 use Rattle.numbers.proofs.Sums.{sum-same, sum-in-same}
 use Rattle.plan.specs.Limits.{widest-high}
 use Rattle.plan.specs.Plan.{Plan, Set, WellFormed}
-use Rattle.plan.specs.Flow.{Within, Flow, FirstFlow, Smallest, held}
+use Rattle.plan.specs.Flow.{Within, Flow, FirstFlow, Smallest, limited, held, until, fixed}
 use Rattle.plan.specs.Shortage.{leaves, enters, shortfall}
 use Rattle.plan.specs.Keeping.{SameNetwork}
 use Rattle.plan.proofs.Cut.{over-nodes, shortfall-parts, flow-balance, balance-flow}
-use Rattle.plan.proofs.Narrowing.{limited, limited-well-formed, both-at}
-
--- the counts f before index i, and the bounds from there on
-abbrev until : (f bound : ℕ → ℕ) → ℕ → ℕ → ℕ
-until f bound i j = cond (ltb j i) (f j) (bound j)
-
--- the plan in which the arcs before i are held at f
-abbrev pub fixed : Plan → (ℕ → ℕ) → ℕ → Plan
-fixed p f i = limited p (until f (p .low) i) (until f (p .high) i)
+use Rattle.plan.proofs.Narrowing.{limited-well-formed, both-at}
 
 -- what is true of both sides of i
 until-cases : (C : ℕ → Type 0) (f bound : ℕ → ℕ) (i j : ℕ) → (j < i → C (f j)) → (i ≤ j → C (bound j)) → C (until f bound i j)

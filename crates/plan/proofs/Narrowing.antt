@@ -11,11 +11,12 @@ use lib.Dec.{eqb}
 use lib.IntN.{pos, _+ℤ_}
 use lib.Signed.{_≤ℤ_}
 use Rattle.numbers.specs.Sums.{only}
-use Rattle.numbers.proofs.Parts.{plus, minus, whole, add}
+use Rattle.numbers.specs.Parts.{plus, minus}
+use Rattle.numbers.proofs.Parts.{whole, add}
 use Rattle.numbers.proofs.Sums.{sum-in-put, put-cases}
 use Rattle.plan.specs.Limits.{widest-high}
 use Rattle.plan.specs.Plan.{Plan, Set, WellFormed}
-use Rattle.plan.specs.Flow.{Flow, Occurs, Smallest, Largest, held}
+use Rattle.plan.specs.Flow.{Flow, Occurs, Smallest, Largest, limited, held}
 use Rattle.plan.specs.Shortage.{leaves, enters, shortfall, Inside}
 use Rattle.plan.specs.Reason.{Separates, allows, forces, LowReason, HighReason}
 use Rattle.plan.proofs.Cut.{shortfall-parts, flow-leaves-no-shortfall}
@@ -48,18 +49,6 @@ module _ (p : Plan) (k : ℕ) (l : k < p .arcs) (S : Set) (s : Separates p k S) 
   )
 
 -- ---- the plan with k held at a count of its range
-
--- a plan with other limits
-abbrev pub limited : Plan → (low high : ℕ → ℕ) → Plan
-limited p low high = record {
-  nodes = p .nodes;
-  arcs = p .arcs;
-  supply = p .supply;
-  from = p .from;
-  to = p .to;
-  low = low;
-  high = high;
-}
 
 pub limited-well-formed : {p : Plan} → WellFormed p → {low high : ℕ → ℕ} → ((j : ℕ) → j < p .arcs → low j ≤ high j)
     → ((j : ℕ) → j < p .arcs → high j ≤ widest-high) → WellFormed (limited p low high)

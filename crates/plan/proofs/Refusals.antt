@@ -2,14 +2,14 @@
 -- `lowest-none` and `lowest-found` say what one rule gives: nothing, or its number with the lowest place concerned.
 use Prim.Native.Nat.{ℕ, zero, suc, _≤_, _<_}
 use mathlib.Core.Path.{_≡_, refl, ap, sym, _∙_}
-use mathlib.Core.Bool.{Bool, true, false, cond, not, _||_, true≢false}
+use mathlib.Core.Bool.{Bool, true, false, cond, _||_, true≢false}
 use mathlib.Core.List.{List, [], _∷_, _++_}
 use mathlib.Core.Logic.{_⊎_, ⊎-elim}
 use native.Mathlib.Omega.{arith}
 use native.Mathlib.Nat.{eq-or-lt-of-le, le-of-suc-le-suc}
 use lib.Dec.{leb, ltb, eqb}
 use lib.IntN.{ℤ, pos, negsuc, natAbs}
-use borrow.Author.Tests.{eqb-true, eqb-false, ltb-false, leb-false, eq-eqb, ne-eqb, le-ltb, lt-leb, not-false}
+use borrow.Author.Tests.{eqb-true, eqb-false, ltb-false, leb-false, ne-eqb, le-ltb, lt-leb, not-false}
 use Rattle.numbers.specs.Sums.{sumℤ}
 use Rattle.plan.specs.Limits.{most-nodes, most-arcs, most-supply, widest-high}
 use Rattle.plan.specs.Plan.{Plan, WellFormed}

@@ -8,7 +8,8 @@ use native.Mathlib.Omega.{arith}
 use lib.IntN.{ℤ, pos, _+ℤ_}
 use lib.Signed.{_≤ℤ_}
 use Rattle.numbers.specs.Sums.{sum, only, sum-in}
-use Rattle.numbers.proofs.Parts.{plus, minus, whole, add}
+use Rattle.numbers.specs.Parts.{plus, minus}
+use Rattle.numbers.proofs.Parts.{whole, add}
 use Rattle.numbers.proofs.Sums.{last-or-before, sum-balance, sum-le, sum-add}
 use Rattle.plan.specs.Plan.{Plan, Set, WellFormed}
 use Rattle.plan.specs.Flow.{total, Flow, FirstFlow, Smallest, Largest, Narrowed}

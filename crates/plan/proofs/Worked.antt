@@ -12,11 +12,11 @@ use lib.Dec.{eqb}
 use lib.ListN.{length, getD}
 use lib.IntN.{ℤ, pos, negℤ}
 use borrow.Author.Tests.{eq-eqb}
-use Rattle.numbers.proofs.Parts.{equalℤ}
+use Rattle.numbers.proofs.Parts.{whole, equalℤ}
 use Rattle.plan.specs.Limits.{widest-low, widest-high}
 use Rattle.plan.specs.Plan.{Plan, Set, WellFormed, plan-of}
 use Rattle.plan.specs.Flow.{FirstFlow, Narrowed}
-use Rattle.plan.specs.Shortage.{supplies, shortfall, Shortage}
+use Rattle.plan.specs.Shortage.{supplies, shortfall, ShortBy}
 use Rattle.plan.specs.Reason.{forces, allows, LowReason, HighReason, mark, no-marks, low-marks, high-marks}
 use Rattle.plan.proofs.Tried.{decided?, each?, well-formed?, first-flow?, shortage?, smallest?, largest?, low-reason?, high-reason?}
 
@@ -116,16 +116,10 @@ pub record Runs (p : Plan) (first : List ℕ) (ranges : List Range) : Type 0 whe
   pub each-range : length ranges ≡ p .arcs
   pub holds : (k : ℕ) → k < p .arcs → RangeHolds p k (getD ranges k (stands 0 upto stands 0))
 
--- the set is the shortage set, and its shortfall is n, above 0
-pub record Short (p : Plan) (n : ℕ) (S : Set) : Type 0 where
-  pub positive : 0 < n
-  pub gives : shortfall p S ≡ pos n
-  pub shortage : Shortage p S
-
 -- what an answer says of a plan, and a row of its own plan, which is well-formed
 abbrev pub AnswerHolds : Plan → Answer → Type 0
 AnswerHolds p (runs first others ranges) = Runs p first ranges
-AnswerHolds p (short n nodes arcs) = Marks p (Short p n) (no-marks p) nodes arcs
+AnswerHolds p (short n nodes arcs) = Marks p (ShortBy p (pos n)) (no-marks p) nodes arcs
 
 abbrev pub Holds : Row → Type 0
 Holds (row supplies arcs answer) = WellFormed (plan-of arcs supplies) × AnswerHolds (plan-of arcs supplies) answer
@@ -168,9 +162,9 @@ module _ (p : Plan) (w : WellFormed p) where
     some (record { each-count = each-count; first-flow = first-flow; each-range = each-range; holds = holds })
   answer? (short n nodes arcs) = marks? p (no-marks p) nodes arcs (do
     positive ← decided? (decLt 0 n)
-    gives ← decided? (equalℤ (shortfall p (marked nodes)) (pos n))
+    value-is ← decided? (equalℤ (shortfall p (marked nodes)) (pos n))
     shortage ← shortage? p w (marked nodes)
-    some (record { positive = positive; gives = gives; shortage = shortage }))
+    some (record { shortage = shortage; value-is = value-is; positive = omega (whole, positive) }))
 
 -- a row, whole
 abbrev row? : (r : Row) → Option (Holds r)

@@ -3,7 +3,7 @@
 pub mod network;
 
 ghost use mathlib.Core.Path.{_≡_};
-ghost use Prim.Native.Nat.{ℕ, _/_};
+ghost use Prim.Native.Nat.{_/_};
 ghost use lib.IntN.{pos};
 ghost use lib.ListN.{length};
 ghost use Rattle.plan.specs.Limits.{most-nodes, most-arcs, most-supply, widest-low, widest-high, arc-entries};

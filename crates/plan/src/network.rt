@@ -11,7 +11,7 @@ ghost use lib.ListN.{length, getD};
 ghost use Rattle.numbers.specs.Sums.{sumℤ};
 ghost use Rattle.plan.specs.Limits.{most-nodes, most-supply, arc-entries};
 ghost use Rattle.plan.specs.Plan.{plan-of};
-ghost use Rattle.plan.specs.Verdict.{Lowest, end-wrong, range-wrong, supply-wrong, sum-wrong, verdict, limit-rules, network-rules, asking-rules};
+ghost use Rattle.plan.specs.Verdict.{Lowest, end-wrong, range-wrong, supply-wrong, verdict, limit-rules, network-rules, asking-rules};
 
 // An index of the caller's numbers is at most 32 bits wide and fits.
 fn wide(x: u32) -> usize

@@ -1,39 +1,23 @@
--- From what was asked to what is told: a "no" leaves everything as it was; else the plan stands ready and its end is looked at.
+-- What the check's verdict says of a request, and what a request that is accepted is told.
 use Prim.Native.Nat.{ℕ, _≤_, _<_}
-use mathlib.Core.Path.{_≡_, refl}
+use mathlib.Core.Path.{_≡_}
 use mathlib.Core.Bool.{Bool, _||_}
 use mathlib.Core.List.{List}
-use native.Mathlib.Omega.{arith}
 use lib.Dec.{leb, ltb}
 use lib.ListN.{length}
 use borrow.Author.Tests.{leb-false}
-use Rattle.engine.specs.Reach.{marked}
 use Rattle.plan.specs.Plan.{Plan, WellFormed}
 use Rattle.plan.specs.Verdict.{verdict, asking-rules, lent-short}
 use Rattle.plan.specs.declared.Verdict.{Verdict}
 use Rattle.plan.specs.declared.Verdict.the-variants.{Accepted}
 use Rattle.plan.proofs.Refusals.{asking-accepted, neither}
 use Rattle.plan.proofs.Checked.{asked-verdict, accepted-plan, first-fits, second-fits}
-use Rattle.stand.specs.Ask.{AskedOf}
-use Rattle.stand.specs.State.{Ready}
-use Rattle.stand.specs.declared.Asked.{Asked}
-use Rattle.stand.specs.declared.Asked.the-variants.{Balances, Lacks}
-use Rattle.reason.specs.Answer.{answer-to, missing, upper, judged, Told, Says}
+use Rattle.reason.specs.Answer.{missing, is-high, judged, Told, Says}
 use Rattle.reason.specs.declared.Answer.{Answer}
 use Rattle.reason.specs.declared.Answer.the-variants.{Stands, Moved, Short, Refused}
 
-module _ {p : Plan} {room : ℕ → ℕ → ℕ} {over under : ℕ → ℕ} {marks : List ℕ} where
-  pub asked-no : (asked : Asked) → AskedOf p room over under marks asked → {r : Answer} → r ≡ answer-to asked → (r ≡ Stands → ⊥)
-      → (k : ℕ) (high-end : Bool) (arcs nodes : List ℕ) → Told p k high-end arcs nodes arcs nodes r
-  asked-no Balances a e never k high-end arcs nodes = absurd (never e)
-  asked-no (Lacks value) a e never k high-end arcs nodes = rw e ((marked marks, a .lacks value refl .short), refl, refl)
-
-  pub asked-ready : (asked : Asked) → AskedOf p room over under marks asked → Stands ≡ answer-to asked → Ready p room over under
-  asked-ready Balances a e = a .balances refl
-  asked-ready (Lacks value) a e = let clash : _≡_ {A = ℕ} 0 1 = cc in absurd (omega arith)
-
 pub told-says : (p : Plan) (arc end : ℕ) (arcs nodes arcs′ nodes′ : List ℕ) (r : Answer) → judged p arc end arcs nodes ≡ Accepted
-    → Told p arc (upper end) arcs nodes arcs′ nodes′ r → Says p arc end arcs nodes arcs′ nodes′ r
+    → Told p arc (is-high end) arcs nodes arcs′ nodes′ r → Says p arc end arcs nodes arcs′ nodes′ r
 told-says p arc end arcs nodes arcs′ nodes′ Stands accepted told = (accepted, told)
 told-says p arc end arcs nodes arcs′ nodes′ (Moved value) accepted told = (accepted, told)
 told-says p arc end arcs nodes arcs′ nodes′ (Short value) accepted told = (accepted, told)

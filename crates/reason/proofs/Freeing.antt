@@ -8,8 +8,8 @@ use Rattle.engine.specs.Room.{at, seen}
 use Rattle.engine.specs.Reach.{marked}
 use Rattle.across.specs.Raise.{Raised}
 use Rattle.plan.specs.Plan.{Plan, WellFormed}
-use Rattle.plan.specs.Reason.{own-end, NarrowedEnd, EndReason, end-marks}
-use Rattle.stand.specs.State.{Ready, Standing}
+use Rattle.plan.specs.Reason.{own-end, NarrowedEnd, end-marks}
+use Rattle.stand.specs.State.{Ready}
 use Rattle.stand.specs.Written.{Written}
 use Rattle.stand.proofs.OneArc.{own-standing, standing-loop, facing-end, facing-reason}
 use Rattle.stand.proofs.Writing.{written-alike, plain-mark}

@@ -4,21 +4,24 @@ use Prim.Native.Nat.{ℕ, _<_}
 use mathlib.Core.Path.{_≡_, refl, sym, ap, _∙_}
 use mathlib.Core.Bool.{Bool}
 use mathlib.Core.List.{List}
+use mathlib.Core.Logic.{_↔_}
+use native.Mathlib.Omega.{arith}
 use lib.IntN.{ℤ}
 use lib.ListN.{length}
 use Rattle.numbers.specs.Sums.{only}
 use Rattle.plan.specs.Plan.{Plan, Set, WellFormed}
+use Rattle.plan.specs.Flow.{Flow}
 use Rattle.plan.specs.Shortage.{ShortBy}
 use Rattle.plan.specs.Reason.{own-end, NarrowedEnd}
-use Rattle.plan.specs.Verdict.{lent-short}
 use Rattle.plan.specs.declared.Verdict.the-variants.{Accepted}
-use Rattle.plan.proofs.Refusals.{accepted-or-refused, accepted-well-formed, asking-accepted}
-use Rattle.plan.proofs.Unique.{short-by-unique}
-use Rattle.plan.proofs.EitherEnd.{end-unique, end-or-short, reason-end, reason-moved, end-set-unique, end-marks-alike}
+use Rattle.plan.proofs.Refusals.{accepted-or-refused}
+use Rattle.plan.proofs.Unique.{short-by-unique, short-or-flow}
+use Rattle.plan.proofs.EitherEnd.{end-unique, end-occurs, end-or-short, reason-end, reason-moved, end-set-unique, end-marks-alike}
 use Rattle.stand.proofs.Writing.{written-unique}
-use Rattle.reason.specs.Answer.{missing, upper, judged, Cited, ReasonAnswers}
+use Rattle.reason.specs.Answer.{number, is-high, judged, Cited, ReasonAnswers}
 use Rattle.reason.specs.declared.Answer.{Answer}
 use Rattle.reason.specs.declared.Answer.the-variants.{Stands, Moved, Short, Refused}
+use Rattle.reason.proofs.Answering.{request-accepted}
 
 module _ (p : Plan) (k : ℕ) (high-end : Bool) where
   -- an end with a reason is narrowed to its value
@@ -48,35 +51,32 @@ module _ (p : Plan) (k : ℕ) (high-end : Bool) where
         written-unique l l′ (end-marks-alike p k w high-end (x .set) (y .set) same-set) (x .arc-marks) (y .arc-marks)
 
 module _ (p : Plan) (arc end : ℕ) (arcs nodes : List ℕ) where
-  well-formed : judged p arc end arcs nodes ≡ Accepted → WellFormed p
-  well-formed e =
-      let short = lent-short arcs (p .arcs) nodes (p .nodes) in
-      accepted-well-formed p short (asking-accepted p short (missing p arc end) e .0)
-
-  end-or-none : judged p arc end arcs nodes ≡ Accepted → (v : ℕ) → NarrowedEnd p arc (upper end) v
+  end-or-none : judged p arc end arcs nodes ≡ Accepted → (v : ℕ) → NarrowedEnd p arc (is-high end) v
       → {s : ℤ} → (S : Set) × ShortBy p s S → ⊥
-  end-or-none e v narrowed short = end-or-short p arc (well-formed e) (upper end) v narrowed (short .1)
+  end-or-none e v narrowed short =
+      end-or-short p arc (request-accepted p arc end arcs nodes e .0) (is-high end) v narrowed (short .1)
 
   pub reason-answers-unique : {a n a′ n′ : List ℕ} (r r′ : Answer) → ReasonAnswers p arc end arcs nodes a n r
       → ReasonAnswers p arc end arcs nodes a′ n′ r′ → (r ≡ r′) × (a ≡ a′) × (n ≡ n′)
   reason-answers-unique Stands Stands x y = (refl, x .says .1 .1 ∙ sym (y .says .1 .1), x .says .1 .2 ∙ sym (y .says .1 .2))
-  reason-answers-unique Stands (Moved v) x y = absurd (stands-or-moved p arc (upper end) (x .says .1 .0) (y .says .1))
+  reason-answers-unique Stands (Moved v) x y = absurd (stands-or-moved p arc (is-high end) (x .says .1 .0) (y .says .1))
   reason-answers-unique Stands (Short s) x y =
-      absurd (end-or-none (x .says .0) (own-end p arc (upper end)) (x .says .1 .0) (y .says .1 .0))
+      absurd (end-or-none (x .says .0) (own-end p arc (is-high end)) (x .says .1 .0) (y .says .1 .0))
   reason-answers-unique Stands (Refused m i) x y = absurd (accepted-or-refused (x .says .0) (y .says .0))
-  reason-answers-unique (Moved v) Stands x y = absurd (stands-or-moved p arc (upper end) (y .says .1 .0) (x .says .1))
+  reason-answers-unique (Moved v) Stands x y = absurd (stands-or-moved p arc (is-high end) (y .says .1 .0) (x .says .1))
   reason-answers-unique (Moved v) (Moved v′) x y = (
-    ap Moved (same-value p arc (upper end) (x .says .1) (y .says .1)),
-    same-arcs p arc (upper end) (x .says .1) (y .says .1) (well-formed (x .says .0)) (x .arcs-length) (y .arcs-length),
-    same-nodes p arc (upper end) (x .says .1) (y .says .1) (x .nodes-length) (y .nodes-length),
+    ap Moved (same-value p arc (is-high end) (x .says .1) (y .says .1)),
+    same-arcs p arc (is-high end) (x .says .1) (y .says .1) (request-accepted p arc end arcs nodes (x .says .0) .0)
+        (x .arcs-length) (y .arcs-length),
+    same-nodes p arc (is-high end) (x .says .1) (y .says .1) (x .nodes-length) (y .nodes-length),
   )
   reason-answers-unique (Moved v) (Short s) x y =
-      absurd (end-or-none (x .says .0) v (cited-end p arc (upper end) (x .says .1)) (y .says .1 .0))
+      absurd (end-or-none (x .says .0) v (cited-end p arc (is-high end) (x .says .1)) (y .says .1 .0))
   reason-answers-unique (Moved v) (Refused m i) x y = absurd (accepted-or-refused (x .says .0) (y .says .0))
   reason-answers-unique (Short s) Stands x y =
-      absurd (end-or-none (x .says .0) (own-end p arc (upper end)) (y .says .1 .0) (x .says .1 .0))
+      absurd (end-or-none (x .says .0) (own-end p arc (is-high end)) (y .says .1 .0) (x .says .1 .0))
   reason-answers-unique (Short s) (Moved v) x y =
-      absurd (end-or-none (x .says .0) v (cited-end p arc (upper end) (y .says .1)) (x .says .1 .0))
+      absurd (end-or-none (x .says .0) v (cited-end p arc (is-high end) (y .says .1)) (x .says .1 .0))
   reason-answers-unique (Short s) (Short s′) x y = (
     ap Short (short-by-unique (x .says .1 .0 .1) (y .says .1 .0 .1)),
     x .says .1 .1 ∙ sym (y .says .1 .1),
@@ -91,3 +91,18 @@ module _ (p : Plan) (arc end : ℕ) (arcs nodes : List ℕ) where
     x .says .1 ∙ sym (y .says .1),
     x .says .2 ∙ sym (y .says .2),
   )
+
+  -- where an end is narrowed some flow exists
+  none-or-end : {A : Type 0} (v : ℕ) → NarrowedEnd p arc (is-high end) v → ((f : ℕ → ℕ) → Flow p f → ⊥) → A
+  none-or-end v narrowed none = let o = end-occurs p arc (is-high end) v narrowed in absurd (none (o .counts) (o .flow))
+
+  -- an accepted request gets number 9 exactly if no flow exists
+  pub reason-no-exactly-if-no-flow : {a n : List ℕ} (r : Answer) → judged p arc end arcs nodes ≡ Accepted
+      → ReasonAnswers p arc end arcs nodes a n r → (number r ≡ 9) ↔ ((f : ℕ → ℕ) → Flow p f → ⊥)
+  reason-no-exactly-if-no-flow Stands e x =
+      (λ no. absurd (omega arith), none-or-end (own-end p arc (is-high end)) (x .says .1 .0))
+  reason-no-exactly-if-no-flow (Moved v) e x =
+      (λ no. absurd (omega arith), none-or-end v (cited-end p arc (is-high end) (x .says .1)))
+  reason-no-exactly-if-no-flow (Short s) e x =
+      (λ no f c. short-or-flow (request-accepted p arc end arcs nodes e .0) (x .says .1 .0 .1) c, λ none. refl)
+  reason-no-exactly-if-no-flow (Refused m i) e x = absurd (accepted-or-refused e (x .says .0))

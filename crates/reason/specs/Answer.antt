@@ -26,6 +26,20 @@ number (Moved value) = 0
 number (Short value) = 9
 number (Refused n place) = n
 
+-- the place that goes with it, or 0; an end that moved is told by 1
+abbrev pub place : Answer → ℕ
+place Stands = 0
+place (Moved value) = 1
+place (Short value) = 0
+place (Refused n i) = i
+
+-- the value that it carries, or 0
+abbrev pub carried : Answer → ℤ
+carried Stands = pos 0
+carried (Moved value) = pos value
+carried (Short value) = value
+carried (Refused n i) = pos 0
+
 -- the answer to a plan that was asked, before an end is looked at
 abbrev pub answer-to : Asked → Answer
 answer-to Balances = Stands
@@ -36,36 +50,36 @@ abbrev pub missing : Plan → (arc end : ℕ) → Bool
 missing p arc end = leb (p .arcs) arc || ltb 1 end
 
 -- end 1 is the high one
-abbrev pub upper : ℕ → Bool
-upper end = eqb end 1
+abbrev pub is-high : ℕ → Bool
+is-high end = eqb end 1
 
 -- what is said of the input: an entry for each arc may be written, and one for each node
 abbrev pub judged : Plan → (arc end : ℕ) → (arcs nodes : List ℕ) → Verdict
 judged p arc end arcs nodes = verdict (asking-rules p (lent-short arcs (p .arcs) nodes (p .nodes)) (missing p arc end))
 
 -- an end that moved: the narrowed value, the marks of the reason's set, and the marks of the bounds that its sum cites
-pub record Cited (p : Plan) (k : ℕ) (high-end : Bool) (value : ℕ) (arcs nodes arcs′ nodes′ : List ℕ) : Type 0 where
+pub record Cited (p : Plan) (k : ℕ) (upper : Bool) (value : ℕ) (arcs nodes arcs′ nodes′ : List ℕ) : Type 0 where
   pub set : Set
-  pub reason : EndReason p k high-end value set
+  pub reason : EndReason p k upper value set
   pub node-marks : Written (λ v. only (set v) 1) (p .nodes) nodes nodes′
-  pub arc-marks : Written (end-marks p k high-end set) (p .arcs) arcs arcs′
+  pub arc-marks : Written (end-marks p k upper set) (p .arcs) arcs arcs′
 
 -- what is told of an end of arc k, and how the buffers are left: as they were, unless the end moved
-abbrev pub Told : Plan → ℕ → (high-end : Bool) → (arcs nodes arcs′ nodes′ : List ℕ) → Answer → Type 0
-Told p k high-end arcs nodes arcs′ nodes′ Stands =
-    NarrowedEnd p k high-end (own-end p k high-end) × (arcs′ ≡ arcs) × (nodes′ ≡ nodes)
-Told p k high-end arcs nodes arcs′ nodes′ (Moved value) = Cited p k high-end value arcs nodes arcs′ nodes′
-Told p k high-end arcs nodes arcs′ nodes′ (Short value) = ((S : Set) × ShortBy p value S) × (arcs′ ≡ arcs) × (nodes′ ≡ nodes)
-Told p k high-end arcs nodes arcs′ nodes′ (Refused n place) = ⊥
+abbrev pub Told : Plan → ℕ → (upper : Bool) → (arcs nodes arcs′ nodes′ : List ℕ) → Answer → Type 0
+Told p k upper arcs nodes arcs′ nodes′ Stands =
+    NarrowedEnd p k upper (own-end p k upper) × (arcs′ ≡ arcs) × (nodes′ ≡ nodes)
+Told p k upper arcs nodes arcs′ nodes′ (Moved value) = Cited p k upper value arcs nodes arcs′ nodes′
+Told p k upper arcs nodes arcs′ nodes′ (Short value) = ((S : Set) × ShortBy p value S) × (arcs′ ≡ arcs) × (nodes′ ≡ nodes)
+Told p k upper arcs nodes arcs′ nodes′ (Refused n place) = ⊥
 
 -- what is answered, and how the buffers are left, for every input
 abbrev pub Says : Plan → (arc end : ℕ) → (arcs nodes arcs′ nodes′ : List ℕ) → Answer → Type 0
 Says p arc end arcs nodes arcs′ nodes′ Stands =
-    (judged p arc end arcs nodes ≡ Accepted) × Told p arc (upper end) arcs nodes arcs′ nodes′ Stands
+    (judged p arc end arcs nodes ≡ Accepted) × Told p arc (is-high end) arcs nodes arcs′ nodes′ Stands
 Says p arc end arcs nodes arcs′ nodes′ (Moved value) =
-    (judged p arc end arcs nodes ≡ Accepted) × Told p arc (upper end) arcs nodes arcs′ nodes′ (Moved value)
+    (judged p arc end arcs nodes ≡ Accepted) × Told p arc (is-high end) arcs nodes arcs′ nodes′ (Moved value)
 Says p arc end arcs nodes arcs′ nodes′ (Short value) =
-    (judged p arc end arcs nodes ≡ Accepted) × Told p arc (upper end) arcs nodes arcs′ nodes′ (Short value)
+    (judged p arc end arcs nodes ≡ Accepted) × Told p arc (is-high end) arcs nodes arcs′ nodes′ (Short value)
 Says p arc end arcs nodes arcs′ nodes′ (Refused n place) =
     (judged p arc end arcs nodes ≡ TurnedDown n place) × (arcs′ ≡ arcs) × (nodes′ ≡ nodes)
 

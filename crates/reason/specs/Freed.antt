@@ -8,8 +8,8 @@ use Rattle.plan.specs.Plan.{Plan}
 use Rattle.plan.specs.Reason.{NarrowedEnd, EndReason}
 
 -- the low end lies so far below the high, the high end so far above the low; where not all is free, the marks hold the set
-pub record Freed (p : Plan) (k : ℕ) (high-end : Bool) (free : ℕ) (marks : List ℕ) : Type 0 where
+pub record Freed (p : Plan) (k : ℕ) (upper : Bool) (free : ℕ) (marks : List ℕ) : Type 0 where
   pub fits : free ≤ p .high k - p .low k
-  pub end : NarrowedEnd p k high-end (cond high-end (p .low k + free) (p .high k - free))
-  pub reason : free < p .high k - p .low k → EndReason p k high-end (cond high-end (p .low k + free) (p .high k - free)) (marked marks)
+  pub end : NarrowedEnd p k upper (cond upper (p .low k + free) (p .high k - free))
+  pub reason : free < p .high k - p .low k → EndReason p k upper (cond upper (p .low k + free) (p .high k - free)) (marked marks)
   pub marks-plain : free < p .high k - p .low k → (v : ℕ) → v < p .nodes → at marks v ≤ 1

@@ -8,6 +8,7 @@ use plan::Plan;
 use plan::Verdict;
 use plan::network::check_asked;
 use plan::network::too_short;
+use stand::Asked;
 use stand::ask::ask;
 use stand::build::arc_at;
 use stand::counts::end_at;
@@ -17,7 +18,6 @@ ghost use Prim.Native.Nat.{ℕ, _≤_, _<_, _/_};
 ghost use lib.Dec.{leb, ltb};
 ghost use lib.ListN.{length};
 ghost use Rattle.engine.specs.Room.{at, seen, Lent};
-ghost use Rattle.engine.specs.Searched.{Desk};
 ghost use Rattle.plan.specs.Limits.{arc-entries};
 ghost use Rattle.plan.specs.Plan.{WellFormed, plan-of};
 ghost use Rattle.stand.specs.State.{Ready};
@@ -34,8 +34,8 @@ fn missing(m: usize, k: usize, end: u32) -> bool
     1 < end
 }
 
-// How much of the width of arc k is free for its low end, or with `upper` for its high end. The arc itself
-// is out of the search: a step back along it does not let its end stand.
+// How much of the width of arc k is free for its low end, or with `upper` for its high end. The direct step
+// between its ends is shut: a step back along the arc does not let its end stand.
 fn free_of(
     arcs: &[u32],
     supplies: &[i32],
@@ -45,13 +45,11 @@ fn free_of(
     over: &mut [u32],
     under: &mut [u32],
     marks: &mut [u8],
-    order: &mut [usize],
-    finder: &mut [usize],
 ) -> u32
     requires plan { ⌜ WellFormed (plan-of (now arcs) (now supplies)) ⌝ }
     requires arc { ⌜ k < length (now arcs) / arc-entries ⌝ }
     requires lent { ⌜ Lent (length (now supplies)) (now rooms) (now over) (now under) ⌝ }
-    requires desk { ⌜ Desk (length (now supplies)) (now marks) (now order) (now finder) ⌝ }
+    requires marks { ⌜ length (now supplies) ≤ length (now marks) ⌝ }
     requires ready { ⌜ Ready (plan-of (now arcs) (now supplies)) (seen (now rooms) false) (at (now over)) (at (now under)) ⌝ }
     ensures { λ r. ⌜ Freed (plan-of (now (arcs .entry)) (now (supplies .entry))) k upper r (now (marks .exit)) ⌝ }
 {
@@ -63,19 +61,7 @@ fn free_of(
     if from == to {
         return width;
     }
-    raise(
-        rooms,
-        upper,
-        over,
-        under,
-        n,
-        from,
-        to,
-        width,
-        marks,
-        order,
-        finder,
-    )
+    raise(rooms, upper, over, under, n, from, to, width, marks)
 }
 
 // Says whether the end of arc k stands, in a plan that stands ready; if it moved, marks the reason.
@@ -90,29 +76,16 @@ fn explain(
     over: &mut [u32],
     under: &mut [u32],
     marks: &mut [u8],
-    order: &mut [usize],
-    finder: &mut [usize],
 ) -> Answer
     requires plan { ⌜ WellFormed (plan-of (now arcs) (now supplies)) ⌝ }
     requires arc { ⌜ k < length (now arcs) / arc-entries ⌝ }
     requires whole { ⌜ (length (now arcs) / arc-entries ≤ length (now «arc_buffer»)) × (length (now supplies) ≤ length (now «node_buffer»)) ⌝ }
     requires lent { ⌜ Lent (length (now supplies)) (now rooms) (now over) (now under) ⌝ }
-    requires desk { ⌜ Desk (length (now supplies)) (now marks) (now order) (now finder) ⌝ }
+    requires marks { ⌜ length (now supplies) ≤ length (now marks) ⌝ }
     requires ready { ⌜ Ready (plan-of (now arcs) (now supplies)) (seen (now rooms) false) (at (now over)) (at (now under)) ⌝ }
     ensures { λ r. ⌜ Told (plan-of (now (arcs .entry)) (now (supplies .entry))) k upper (now («arc_buffer» .entry)) (now («node_buffer» .entry)) (now («arc_buffer» .exit)) (now («node_buffer» .exit)) r ⌝ }
 {
-    let free = free_of(
-        arcs,
-        supplies,
-        k,
-        upper,
-        rooms,
-        over,
-        under,
-        marks,
-        order,
-        finder,
-    );
+    let free = free_of(arcs, supplies, k, upper, rooms, over, under, marks);
     let arc = arc_at(arcs, k);
     if free == arc.high - arc.low {
         return Answer::Stands;
@@ -134,20 +107,18 @@ fn work_out_on(
     over: &mut [u32],
     under: &mut [u32],
     marks: &mut [u8],
-    order: &mut [usize],
-    finder: &mut [usize],
 ) -> Answer
     requires plan { ⌜ WellFormed (plan-of (now arcs) (now supplies)) ⌝ }
     requires arc { ⌜ k < length (now arcs) / arc-entries ⌝ }
     requires whole { ⌜ (length (now arcs) / arc-entries ≤ length (now «arc_buffer»)) × (length (now supplies) ≤ length (now «node_buffer»)) ⌝ }
     requires lent { ⌜ Lent (length (now supplies)) (now rooms) (now over) (now under) ⌝ }
     requires empty { ⌜ ((i : ℕ) → (at (now rooms) i ≡ 0) × (at (now over) i ≡ 0) × (at (now under) i ≡ 0)) ⌝ }
-    requires desk { ⌜ Desk (length (now supplies)) (now marks) (now order) (now finder) ⌝ }
+    requires marks { ⌜ length (now supplies) ≤ length (now marks) ⌝ }
     ensures { λ r. ⌜ Told (plan-of (now (arcs .entry)) (now (supplies .entry))) k upper (now («arc_buffer» .entry)) (now («node_buffer» .entry)) (now («arc_buffer» .exit)) (now («node_buffer» .exit)) r ⌝ }
 {
-    let asked = Answer::to(ask(arcs, supplies, rooms, over, under, marks, order, finder));
-    let Answer::Stands = asked else {
-        return asked;
+    let asked = ask(arcs, supplies, rooms, over, under, marks);
+    let Asked::Balances = asked else {
+        return Answer::to(asked);
     };
     explain(
         arcs,
@@ -160,8 +131,6 @@ fn work_out_on(
         over,
         under,
         marks,
-        order,
-        finder,
     )
 }
 
@@ -183,8 +152,6 @@ fn work_out(
     let mut over = [0u32; Plan::MOST_NODES];
     let mut under = [0u32; Plan::MOST_NODES];
     let mut marks = [0u8; Plan::MOST_NODES];
-    let mut order = [0usize; Plan::MOST_NODES];
-    let mut finder = [0usize; Plan::MOST_NODES];
     work_out_on(
         arcs,
         supplies,
@@ -196,8 +163,6 @@ fn work_out(
         &mut over,
         &mut under,
         &mut marks,
-        &mut order,
-        &mut finder,
     )
 }
 

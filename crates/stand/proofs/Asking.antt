@@ -1,25 +1,22 @@
 -- What settling a plan shows. If nothing is over any more, everything balances. Otherwise the reach of what is over holds all of
 -- it and nothing that lacks, and no room leads out of it: it is the shortage set, and what is over is its shortfall.
-use Prim.Native.Nat.{ℕ, zero, suc, _+_, _≤_, _<_}
-use mathlib.Core.Path.{_≡_, refl, sym, _∙_}
-use mathlib.Core.Bool.{Bool, true, false, true≢false}
+use Prim.Native.Nat.{ℕ, zero, suc, _<_}
+use mathlib.Core.Path.{_≡_, refl}
+use mathlib.Core.Bool.{Bool, true, false}
 use mathlib.Core.List.{List}
 use native.Mathlib.Omega.{arith}
 use lib.IntN.{ℤ, pos}
 use lib.ListN.{replicate}
-use lib.Signed.{_<ℤ_}
 use Rattle.numbers.specs.Sums.{sum}
 use Rattle.numbers.proofs.Parts.{whole}
 use Rattle.numbers.proofs.Sums.{sum-member}
 use Rattle.engine.specs.Room.{at, crossing, Small}
-use Rattle.engine.specs.Reach.{Holds, Closed, marked}
-use Rattle.across.specs.Raise.{Balanced}
+use Rattle.engine.specs.Reach.{Closed, marked}
 use Rattle.engine.specs.Settle as E
 use Rattle.engine.proofs.Sweeping.{kept-small}
-use Rattle.across.proofs.Raising.{crossing-closed, crossing-member, crossing-all}
+use Rattle.across.proofs.Raising.{crossing-closed, crossing-member}
 use Rattle.plan.specs.Plan.{Plan, Set, WellFormed}
-use Rattle.plan.specs.Shortage.{shortfall, Inside, Shortage}
-use Rattle.plan.proofs.Certificate.{Ledger, HoldsOver, Settled, settled-shortage, settled-shortfall}
+use Rattle.plan.proofs.Certificate.{Ledger, Settled, settled-shortage, settled-shortfall}
 use Rattle.stand.specs.State.{Represents, Ready}
 use Rattle.stand.specs.Ask.{Marked, AskedOf}
 use Rattle.stand.specs.declared.Asked.the-variants.{Balances, Lacks}

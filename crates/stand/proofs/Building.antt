@@ -15,7 +15,8 @@ use lib.ListN.{length, set}
 use lib.Seq.{getD-set-same, getD-set-other}
 use borrow.Author.Tests.{leb-false, eqb-true, eqb-false, eq-eqb, ne-eqb}
 use Rattle.numbers.specs.Sums.{sum, only, sum-in}
-use Rattle.numbers.proofs.Parts.{plus, minus, whole, add, magnitude}
+use Rattle.numbers.specs.Parts.{plus, minus}
+use Rattle.numbers.proofs.Parts.{whole, add, magnitude}
 use Rattle.numbers.proofs.Sums.{last-or-before, sum-same, sum-in-same, sum-in-add, sum-in-gathered}
 use Rattle.engine.specs.Room.{side, at, cell, crossing, Small, Lent}
 use Rattle.engine.specs.Move.{Less}

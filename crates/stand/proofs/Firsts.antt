@@ -1,7 +1,7 @@
 -- The first flow, arc by arc. The arcs before i are held at the counts written so far, each the smallest that it had in its turn;
 -- one count more changes no plan before it, and makes the next.
-use Prim.Native.Nat.{ℕ, zero, suc, _+_, _/_, _≤_, _<_}
-use mathlib.Core.Path.{_≡_, refl, sym, ap, ap₂, subst, _∙_}
+use Prim.Native.Nat.{ℕ, suc, _+_, _/_, _≤_, _<_}
+use mathlib.Core.Path.{_≡_, refl, sym, ap₂, subst, _∙_}
 use mathlib.Core.Bool.{Bool, true, false, cond}
 use mathlib.Core.List.{List}
 use mathlib.Core.Logic.{⊎-elim}
@@ -17,9 +17,8 @@ use Rattle.numbers.proofs.Sums.{last-or-before, put-elsewhere}
 use Rattle.engine.specs.Room.{at}
 use Rattle.plan.specs.Limits.{arc-entries}
 use Rattle.plan.specs.Plan.{Plan, WellFormed, plan-of}
-use Rattle.plan.specs.Flow.{FirstFlow, Smallest, held}
-use Rattle.plan.proofs.Narrowing.{limited}
-use Rattle.plan.proofs.First.{fixed, fixed-well-formed, fixed-start-plan, fixed-next-plan, first-flow-by-arcs}
+use Rattle.plan.specs.Flow.{FirstFlow, Smallest, held, limited, fixed}
+use Rattle.plan.proofs.First.{fixed-well-formed, fixed-start-plan, fixed-next-plan, first-flow-by-arcs}
 use Rattle.stand.specs.State.{Listed, Ready, Standing, Possible, Fixing}
 use Rattle.stand.proofs.Standing.{ready-flow}
 

@@ -1,7 +1,7 @@
 -- An arc held at a count. Its share of the rooms is taken out: of the room from its start to its end what lay between the count and
 -- its high, of the room back what lay between its low and the count. What is left stands for the plan with the arc held.
 use Prim.Native.Nat.{ℕ, _+_, _-_, _≤_, _<_}
-use mathlib.Core.Path.{_≡_, refl, sym, ap, _∙_}
+use mathlib.Core.Path.{_≡_, refl, sym, _∙_}
 use mathlib.Core.Bool.{Bool, true, false, not, _&&_}
 use mathlib.Core.Logic.{by-cases}
 use native.Mathlib.Omega.{arith}
@@ -10,13 +10,13 @@ use lib.Dec.{eqb}
 use lib.IntN.{ℤ, pos, _+ℤ_}
 use borrow.Author.Tests.{eq-eqb, ne-eqb}
 use Rattle.numbers.specs.Sums.{only, sum-in, put}
-use Rattle.numbers.proofs.Parts.{plus, minus, whole, add}
+use Rattle.numbers.specs.Parts.{plus, minus}
+use Rattle.numbers.proofs.Parts.{whole, add}
 use Rattle.numbers.proofs.Sums.{sum-change, sum-in-zero, sum-in-put, put-there, put-elsewhere}
 use Rattle.engine.specs.Room.{crossing, Small}
-use Rattle.across.specs.Raise.{Balanced, HeldOut}
-use Rattle.plan.specs.Limits.{widest-high}
+use Rattle.across.specs.Raise.{HeldOut}
 use Rattle.plan.specs.Plan.{Plan, Set, WellFormed}
-use Rattle.plan.specs.Flow.{total, held}
+use Rattle.plan.specs.Flow.{held}
 use Rattle.plan.specs.Shortage.{leaves, enters, shortfall}
 use Rattle.plan.proofs.Cut.{shortfall-parts}
 use Rattle.stand.specs.State.{widths, Represents, Ready}

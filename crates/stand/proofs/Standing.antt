@@ -1,7 +1,7 @@
 -- How a plan stands in the engine's numbers, from one state to the next: in balance the room that leads out of a set is what its
 -- shortfall is below 0, so the least room across is the room that an arc's count has; and an arc whose share is taken out is held.
-use Prim.Native.Nat.{ℕ, _+_, _-_, _≤_, _<_, _^_}
-use mathlib.Core.Path.{_≡_, refl, sym, ap, _∙_}
+use Prim.Native.Nat.{ℕ, _+_, _-_, _≤_, _<_}
+use mathlib.Core.Path.{_≡_, sym, _∙_}
 use mathlib.Core.Bool.{Bool, true, false, cond, false≢true}
 use mathlib.Core.List.{List}
 use mathlib.Core.Logic.{_⊎_, inl, inr, by-cases}
@@ -10,7 +10,7 @@ use native.Mathlib.Decide.{decLt}
 use lib.IntN.{ℤ, pos, _+ℤ_}
 use lib.Signed.{_≤ℤ_}
 use Rattle.numbers.specs.Sums.{sum, sum-in}
-use Rattle.numbers.proofs.Parts.{plus, minus, whole, add}
+use Rattle.numbers.proofs.Parts.{whole, add}
 use Rattle.numbers.proofs.Sums.{sumℤ-parts, sum-in-zero}
 use Rattle.engine.specs.Room.{seen, crossing, Small, Kept}
 use Rattle.across.specs.Raise.{Balanced, NoneShort, Splits, Free, Still}

@@ -12,9 +12,8 @@ use Rattle.engine.specs.Room.{crossing, Small}
 use Rattle.across.specs.Raise.{Balanced}
 use Rattle.plan.specs.Limits.{arc-entries}
 use Rattle.plan.specs.Plan.{Plan, Set, WellFormed, plan-of}
-use Rattle.plan.specs.Flow.{total, Occurs}
+use Rattle.plan.specs.Flow.{total, Occurs, fixed}
 use Rattle.plan.specs.Shortage.{shortfall}
-use Rattle.plan.proofs.First.{fixed}
 
 -- the widths of the arcs from x to y, added up
 abbrev pub widths : Plan → ℕ → ℕ → ℕ

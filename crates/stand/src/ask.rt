@@ -4,12 +4,11 @@ use crate::build::build;
 use engine::settle::settle;
 ghost use mathlib.Core.Path.{_≡_};
 ghost use mathlib.Core.Bool.{false};
-ghost use Prim.Native.Nat.{ℕ, _^_, _≤_, _<_};
+ghost use Prim.Native.Nat.{ℕ, _≤_, _<_};
 ghost use lib.IntN.{pos};
 ghost use lib.ListN.{length};
 ghost use Rattle.numbers.specs.Sums.{sum};
 ghost use Rattle.engine.specs.Room.{at, seen, Lent};
-ghost use Rattle.engine.specs.Searched.{Desk};
 ghost use Rattle.plan.specs.Limits.{most-nodes};
 ghost use Rattle.plan.specs.Plan.{WellFormed, plan-of};
 ghost use Rattle.stand.specs.Ask.{AskedOf};
@@ -37,18 +36,16 @@ pub fn ask(
     over: &mut [u32],
     under: &mut [u32],
     marks: &mut [u8],
-    order: &mut [usize],
-    finder: &mut [usize],
 ) -> Asked
     requires plan { ⌜ WellFormed (plan-of (now arcs) (now supplies)) ⌝ }
     requires lent { ⌜ Lent (length (now supplies)) (now rooms) (now over) (now under) ⌝ }
     requires empty { ⌜ ((i : ℕ) → (at (now rooms) i ≡ 0) × (at (now over) i ≡ 0) × (at (now under) i ≡ 0)) ⌝ }
-    requires desk { ⌜ Desk (length (now supplies)) (now marks) (now order) (now finder) ⌝ }
+    requires marks { ⌜ length (now supplies) ≤ length (now marks) ⌝ }
     ensures { λ r. ⌜ AskedOf (plan-of (now (arcs .entry)) (now (supplies .entry))) (seen (now (rooms .exit)) false) (at (now (over .exit))) (at (now (under .exit))) (now (marks .exit)) r ⌝ }
 {
     let n = supplies.len();
     build(arcs, supplies, rooms, over, under);
-    settle(rooms, false, over, under, n, n, n, marks, order, finder);
+    settle(rooms, false, over, under, n, n, n, marks);
     let total = total_of(over, n);
     if total == 0 {
         Asked::Balances

@@ -7,7 +7,7 @@ ghost use mathlib.Core.Bool.{false};
 ghost use Prim.Native.Nat.{ℕ, _+_, _-_, _*_, _/_, _^_, _≤_, _<_};
 ghost use lib.IntN.{pos, natAbs};
 ghost use lib.ListN.{length, getD};
-ghost use Rattle.numbers.proofs.Parts.{plus, minus};
+ghost use Rattle.numbers.specs.Parts.{plus, minus};
 ghost use Rattle.engine.specs.Room.{side, at, cell, seen, Small, Lent};
 ghost use Rattle.engine.specs.Move.{Less};
 ghost use Rattle.plan.specs.Limits.{most-supply, arc-entries};

@@ -1,4 +1,4 @@
-// An end of an arc's narrowed range, and an arc held at a count: a page each over the engine. The state is
+// An end of an arc's narrowed range, and an arc held at a count: a page each over `across`. The state is
 // a plan's that has a flow, in balance, before and after. Internal.
 use across::raise::hold;
 use across::raise::measure;
@@ -8,7 +8,6 @@ ghost use mathlib.Core.Bool.{cond, false};
 ghost use Prim.Native.Nat.{ℕ, _+_, _-_, _≤_};
 ghost use lib.ListN.{length};
 ghost use Rattle.engine.specs.Room.{at, seen, Lent};
-ghost use Rattle.engine.specs.Searched.{Desk};
 ghost use Rattle.plan.specs.Plan.{Plan};
 ghost use Rattle.plan.specs.Flow.{held};
 ghost use Rattle.plan.specs.Reason.{NarrowedEnd};
@@ -18,7 +17,10 @@ ghost use Rattle.stand.specs.State.{Ready, Standing, Possible};
 fn either(upper: bool, low: u32, high: u32) -> u32
     ensures { λ r. ⌜ r ≡ cond upper high low ⌝ }
 {
-    if upper { high } else { low }
+    if upper {
+        return high;
+    }
+    low
 }
 
 // The end of a range of which so much is free: as far below the high, or with `upper` above the low.
@@ -41,30 +43,16 @@ pub fn end_of(
     low: u32,
     high: u32,
     marks: &mut [u8],
-    order: &mut [usize],
-    finder: &mut [usize],
 ) -> u32
     requires lent { ⌜ Lent n (now rooms) (now over) (now under) ⌝ }
-    requires desk { ⌜ Desk n (now marks) (now order) (now finder) ⌝ }
+    requires marks { ⌜ n ≤ length (now marks) ⌝ }
     requires stands { ⌜ ((p : Plan) × ((k : ℕ) × Standing p k n a b low high (seen (now rooms) false) (at (now over)) (at (now under)))) ⌝ }
     ensures { λ r. ⌜ ((p : Plan) (k : ℕ) → Standing p k n a b low high (seen (now (rooms .entry)) false) (at (now (over .entry))) (at (now (under .entry))) → NarrowedEnd p k upper r × Ready p (seen (now (rooms .exit)) false) (at (now (over .exit))) (at (now (under .exit)))) ⌝ }
 {
     if a == b {
         return either(upper, low, high);
     }
-    let free = measure(
-        rooms,
-        upper,
-        over,
-        under,
-        n,
-        a,
-        b,
-        high - low,
-        marks,
-        order,
-        finder,
-    );
+    let free = measure(rooms, upper, over, under, n, a, b, high - low, marks);
     end_at(upper, low, high, free)
 }
 
@@ -80,11 +68,9 @@ pub fn hold_at(
     high: u32,
     count: u32,
     marks: &mut [u8],
-    order: &mut [usize],
-    finder: &mut [usize],
 )
     requires lent { ⌜ Lent n (now rooms) (now over) (now under) ⌝ }
-    requires desk { ⌜ Desk n (now marks) (now order) (now finder) ⌝ }
+    requires marks { ⌜ n ≤ length (now marks) ⌝ }
     requires stands { ⌜ ((p : Plan) × ((k : ℕ) × (Standing p k n a b low high (seen (now rooms) false) (at (now over)) (at (now under)) × Possible p k count))) ⌝ }
     ensures { λ r. ⌜ ((p : Plan) (k : ℕ) → Standing p k n a b low high (seen (now (rooms .entry)) false) (at (now (over .entry))) (at (now (under .entry))) → Possible p k count → Ready (held p k count) (seen (now (rooms .exit)) false) (at (now (over .exit))) (at (now (under .exit)))) ⌝ }
 {
@@ -92,5 +78,5 @@ pub fn hold_at(
         return;
     }
     hold(rooms, over, under, n, a, b, high - count, count - low);
-    rebalance(rooms, false, over, under, n, marks, order, finder);
+    rebalance(rooms, false, over, under, n, marks);
 }

@@ -3,10 +3,9 @@
 use crate::build::arc_at;
 use crate::counts::end_of;
 ghost use mathlib.Core.Bool.{false};
-ghost use Prim.Native.Nat.{ℕ, _<_, _/_};
+ghost use Prim.Native.Nat.{_≤_, _<_, _/_};
 ghost use lib.ListN.{length};
 ghost use Rattle.engine.specs.Room.{at, seen, Lent};
-ghost use Rattle.engine.specs.Searched.{Desk};
 ghost use Rattle.plan.specs.Limits.{arc-entries};
 ghost use Rattle.plan.specs.Plan.{WellFormed, plan-of};
 ghost use Rattle.plan.specs.Reason.{NarrowedEnd};
@@ -22,12 +21,10 @@ pub fn end_for(
     over: &mut [u32],
     under: &mut [u32],
     marks: &mut [u8],
-    order: &mut [usize],
-    finder: &mut [usize],
 ) -> u32
     requires plan { ⌜ WellFormed (plan-of (now arcs) (now supplies)) ⌝ }
     requires lent { ⌜ Lent (length (now supplies)) (now rooms) (now over) (now under) ⌝ }
-    requires desk { ⌜ Desk (length (now supplies)) (now marks) (now order) (now finder) ⌝ }
+    requires marks { ⌜ length (now supplies) ≤ length (now marks) ⌝ }
     requires arc { ⌜ k < length (now arcs) / arc-entries ⌝ }
     requires ready { ⌜ Ready (plan-of (now arcs) (now supplies)) (seen (now rooms) false) (at (now over)) (at (now under)) ⌝ }
     ensures end { λ r. ⌜ NarrowedEnd (plan-of (now (arcs .entry)) (now (supplies .entry))) k upper r ⌝ }
@@ -48,7 +45,5 @@ pub fn end_for(
         arc.low,
         arc.high,
         marks,
-        order,
-        finder,
     )
 }

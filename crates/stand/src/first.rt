@@ -12,11 +12,9 @@ ghost use lib.IntN.{ℤ};
 ghost use lib.ListN.{length};
 ghost use Rattle.numbers.specs.Sums.{put};
 ghost use Rattle.engine.specs.Room.{at, seen, Lent};
-ghost use Rattle.engine.specs.Searched.{Desk};
 ghost use Rattle.plan.specs.Limits.{arc-entries};
 ghost use Rattle.plan.specs.Plan.{Plan, WellFormed, plan-of};
-ghost use Rattle.plan.specs.Flow.{FirstFlow, Smallest, held};
-ghost use Rattle.plan.proofs.First.{fixed};
+ghost use Rattle.plan.specs.Flow.{FirstFlow, Smallest, held, fixed};
 ghost use Rattle.stand.specs.State.{Listed, Ready, Fixing};
 
 // Arc i of a list of arcs; the range of arc k is a count alone.
@@ -42,11 +40,9 @@ fn fix(
     over: &mut [u32],
     under: &mut [u32],
     marks: &mut [u8],
-    order: &mut [usize],
-    finder: &mut [usize],
 ) -> u32
     requires lent { ⌜ Lent (length (now supplies)) (now rooms) (now over) (now under) ⌝ }
-    requires desk { ⌜ Desk (length (now supplies)) (now marks) (now order) (now finder) ⌝ }
+    requires marks { ⌜ length (now supplies) ≤ length (now marks) ⌝ }
     requires arc { ⌜ i < length (now arcs) / arc-entries ⌝ }
     requires ready { ⌜ ((p : Plan) × ((f : ℕ → ℕ) × Fixing (now arcs) (now supplies) k count i p f (seen (now rooms) false) (at (now over)) (at (now under)))) ⌝ }
     ensures { λ r. ⌜ ((p : Plan) (f : ℕ → ℕ) → Fixing (now (arcs .entry)) (now (supplies .entry)) k count i p f (seen (now (rooms .entry)) false) (at (now (over .entry))) (at (now (under .entry))) → Smallest (fixed p f i) i r × Ready (held (fixed p f i) i r) (seen (now (rooms .exit)) false) (at (now (over .exit))) (at (now (under .exit)))) ⌝ }
@@ -66,8 +62,6 @@ fn fix(
         arc.low,
         arc.high,
         marks,
-        order,
-        finder,
     );
     hold_at(
         rooms,
@@ -80,8 +74,6 @@ fn fix(
         arc.high,
         least,
         marks,
-        order,
-        finder,
     );
     least
 }
@@ -98,11 +90,9 @@ pub fn first_flow(
     over: &mut [u32],
     under: &mut [u32],
     marks: &mut [u8],
-    order: &mut [usize],
-    finder: &mut [usize],
 )
     requires lent { ⌜ Lent (length (now supplies)) (now rooms) (now over) (now under) ⌝ }
-    requires desk { ⌜ Desk (length (now supplies)) (now marks) (now order) (now finder) ⌝ }
+    requires marks { ⌜ length (now supplies) ≤ length (now marks) ⌝ }
     requires whole { ⌜ length (now arcs) / arc-entries ≤ length (now counts) ⌝ }
     requires ready { ⌜ ((p : Plan) × (Listed (now arcs) (now supplies) k count p × WellFormed p × Ready p (seen (now rooms) false) (at (now over)) (at (now under)))) ⌝ }
     ensures first { λ r. ⌜ ((p : Plan) → Listed (now (arcs .entry)) (now (supplies .entry)) k count p → WellFormed p → Ready p (seen (now (rooms .entry)) false) (at (now (over .entry))) (at (now (under .entry))) → FirstFlow p (at (now (counts .exit)))) ⌝ }
@@ -111,19 +101,7 @@ pub fn first_flow(
     let total = arcs.len() / Arc::ENTRIES;
     let mut i = 0;
     while i < total {
-        counts[i] = fix(
-            arcs,
-            supplies,
-            k,
-            count,
-            i,
-            rooms,
-            over,
-            under,
-            marks,
-            order,
-            finder,
-        );
+        counts[i] = fix(arcs, supplies, k, count, i, rooms, over, under, marks);
         i += 1;
     }
 }

@@ -4,9 +4,9 @@ use mathlib.Core.Path.{_≡_, ap, sym, _∙_}
 use mathlib.Core.List.{List}
 use lib.IntN.{ℤ}
 use Rattle.plan.specs.Plan.{Plan}
-use Rattle.flow.specs.Answer.{number}
+use Rattle.flow.specs.Answer.{number, place, carried}
 use Rattle.flow.proofs.Unique.{flow-answers-unique}
-use Rattle.unit.specs.Crossing.{place, lacking, FlowCrosses}
+use Rattle.unit.specs.Crossing.{FlowCrosses}
 
 pub flow-crosses-unique : (p : Plan) (arcs nodes : List ℕ) {a n a′ n′ : List ℕ} {num num′ i i′ : ℕ} {value value′ : ℤ}
     → FlowCrosses p arcs nodes a n num i value → FlowCrosses p arcs nodes a′ n′ num′ i′ value′
@@ -15,7 +15,7 @@ flow-crosses-unique p arcs nodes x y =
     let (same, same-arcs, same-nodes) = flow-answers-unique p arcs nodes (x .answer) (y .answer) (x .answers) (y .answers) in (
       x .number-is ∙ ap number same ∙ sym (y .number-is),
       x .place-is ∙ ap place same ∙ sym (y .place-is),
-      x .value-is ∙ ap lacking same ∙ sym (y .value-is),
+      x .value-is ∙ ap carried same ∙ sym (y .value-is),
       same-arcs,
       same-nodes,
     )

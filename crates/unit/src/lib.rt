@@ -1,4 +1,4 @@
-// The boundary to C: each public request under its C name, over lent slices, with the answer in a struct.
+// The boundary to C: the flow question under its C name, over lent slices, with the answer in a struct.
 // C passes a slice as a pointer and a length, and declares the struct again as `struct blenrop_answer`.
 use flow::question::question;
 ghost use Rattle.plan.specs.Plan.{plan-of};

@@ -1,6 +1,5 @@
 -- The index stays within the count.
 use Prim.Native.Nat.{_-_, _≤_}
-use lib.ListN.{length}
 use borrow.Author.Needs.{needs}
 use native.Mathlib.Omega.{arith}
 use Rattle.show.proofs.say_counts.Statement.{statement}

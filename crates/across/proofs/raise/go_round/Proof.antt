@@ -9,8 +9,8 @@ use Rattle.across.proofs.raise.go_round.Tie as tie
 
 shift-requires : tie.Need-shift-requires
 shift-requires c κs =
-    let pre = c .before .before .before .before .before .before .before .before .before .pre in
-    let a = c .before .before .before .before .before .before .before .before .before .args in
+    let pre = c .before .before .before .before .before .before .before .pre in
+    let a = c .before .before .before .before .before .before .before .args in
     let nodes = pre .1 .1 .1 .1 .0 in (
       pre .0,
       (
@@ -26,11 +26,11 @@ shift-requires c κs =
 
 settle-requires : tie.Need-settle-requires
 settle-requires c κs =
-    let pre = c .before .before .before .before .before .before .before .before .before .before .before .before .before .before .before .before .before .before .before .before .before .before .pre in
+    let pre = c .before .before .before .before .before .before .before .before .before .before .before .before .before .before .before .before .before .before .pre in
     let nodes = pre .1 .1 .1 .1 .0 in (
-      lent-still (record { first-length = c .before .before .before .before .before .before .before .before .before .before .before .before .shift .kept .0; second-length = c .before .before .before .before .before .before .before .before .before .before .before .before .shift .kept .1 .1 .0; third-length = c .before .before .before .before .before .before .before .before .before .before .before .before .shift .kept .1 .1 .1 .0 }) (pre .0),
+      lent-still (record { first-length = c .before .before .before .before .before .before .before .before .before .before .shift .kept .0; second-length = c .before .before .before .before .before .before .before .before .before .before .shift .kept .1 .1 .0; third-length = c .before .before .before .before .before .before .before .before .before .before .shift .kept .1 .1 .1 .0 }) (pre .0),
       (
-        shifted-small (nodes .0) (nodes .1) (pre .1 .1 .1 .0) (c .before .before .before .before .before .before .before .before .before .before .before .before .shift .ensures) (pre .1 .0) (pre .1 .1 .1 .1 .1) (nodes .2),
+        shifted-small (nodes .0) (nodes .1) (pre .1 .1 .1 .0) (c .before .before .before .before .before .before .before .before .before .before .shift .ensures) (pre .1 .0) (pre .1 .1 .1 .1 .1) (nodes .2),
         pre .1 .1 .0,
       ),
     )
@@ -47,17 +47,11 @@ same-length-3 c = search needs
 same-length-4 : tie.Need-same-length-4
 same-length-4 c = search needs
 
-same-length-5 : tie.Need-same-length-5
-same-length-5 c = search needs
-
-same-length-6 : tie.Need-same-length-6
-same-length-6 c = search needs
-
 returns : tie.Need-returns
 returns c =
-    let pre = c .before .before .before .before .before .before .before .before .before .before .before .before .before .before .before .before .before .before .before .before .before .before .before .before .before .before .before .before .before .before .before .before .before .before .before .pre in
+    let pre = c .before .before .before .before .before .before .before .before .before .before .before .before .before .before .before .before .before .before .before .before .before .before .before .before .before .before .before .pre in
     let nodes = pre .1 .1 .1 .1 .0 in
-    stopped (nodes .0) (nodes .1) (pre .1 .1 .1 .0) (c .before .before .before .before .before .before .before .before .before .before .before .before .before .before .before .before .before .before .before .before .before .before .before .before .before .shift .ensures) (c .before .before .before .before .before .before .before .before .before .before .before .before .settle .ensures)
+    stopped (nodes .0) (nodes .1) (pre .1 .1 .1 .0) (c .before .before .before .before .before .before .before .before .before .before .before .before .before .before .before .before .before .before .before .shift .ensures) (c .before .before .before .before .before .before .before .before .settle .ensures)
 
 pub go-round-spec : {M : Type 1} → statement M
 go-round-spec =
@@ -69,6 +63,4 @@ go-round-spec =
     same-length-2
     same-length-3
     same-length-4
-    same-length-5
-    same-length-6
     returns)

@@ -1,9 +1,8 @@
 -- What raising leaves over comes back, since no set is short; and what of the width is free stays what it was.
 use mathlib.Core.Path.{_∙_}
-use native.Mathlib.Omega.{arith}
-use borrow.Author.Needs.{needs}
-use Rattle.engine.proofs.Sweeping.{kept-on, kept-small, lent-still, desk-still}
+use Rattle.engine.proofs.Sweeping.{kept-on, kept-small, lent-still, still-fits}
 use Rattle.across.proofs.Raising.{kept-covered, raised-small, raised-covered, raised-still}
+use borrow.Author.Needs.{needs}
 use Rattle.across.proofs.raise.measure.Statement.{statement}
 use Rattle.across.proofs.raise.measure.Tie as tie
 
@@ -12,26 +11,26 @@ raise-requires c κs = search needs
 
 bring-back-requires : tie.Need-bring-back-requires
 bring-back-requires c κs =
-    let pre = c .before .before .before .before .before .before .before .before .before .before .before .before .before .before .before .before .before .before .before .before .before .before .before .before .before .before .before .before .pre in
-    let k = c .before .before .before .before .before .before .before .before .before .before .before .before .before .before .before .raise .kept in
+    let pre = c .before .before .before .before .before .before .before .before .before .before .before .before .before .before .before .before .before .before .before .before .pre in
+    let k = c .before .before .before .before .before .before .before .before .before .before .before .raise .kept in
     let nodes = pre .1 .1 .1 .1 .0 in (
       lent-still (record { first-length = k .0; second-length = k .1 .1 .0; third-length = k .1 .1 .1 .0 }) (pre .0),
-      (raised-small (c .before .before .before .before .before .before .before .before .before .before .before .before .before .before .before .raise .ensures) (pre .1 .0) (pre .1 .1 .1 .1 .1) (nodes .0) (nodes .1) (nodes .2), nodes),
+      (raised-small (c .before .before .before .before .before .before .before .before .before .before .before .raise .ensures) (pre .1 .0) (pre .1 .1 .1 .1 .1) (nodes .0) (nodes .1) (nodes .2), nodes),
     )
 
 rebalance-requires : tie.Need-rebalance-requires
 rebalance-requires c κs =
-    let pre = c .before .before .before .before .before .before .before .before .before .before .before .before .before .before .before .before .before .before .before .before .before .before .before .before .before .before .before .before .before .before .before .before .before .before .before .before .before .before .before .before .before .pre in
-    let k = c .before .before .before .before .before .before .before .before .before .before .before .before .before .before .before .before .before .before .before .before .before .before .before .before .before .before .before .before .raise .kept in
-    let k′ = c .before .before .before .before .before .before .before .before .before .before .before .before .bring-back .kept in
-    let kept = c .before .before .before .before .before .before .before .before .before .before .before .before .bring-back .ensures in
+    let pre = c .before .before .before .before .before .before .before .before .before .before .before .before .before .before .before .before .before .before .before .before .before .before .before .before .before .before .before .before .before .before .before .pre in
+    let k = c .before .before .before .before .before .before .before .before .before .before .before .before .before .before .before .before .before .before .before .before .before .before .raise .kept in
+    let k′ = c .before .before .before .before .before .before .before .before .before .before .bring-back .kept in
+    let kept = c .before .before .before .before .before .before .before .before .before .before .bring-back .ensures in
     let nodes = pre .1 .1 .1 .1 .0 in (
       lent-still (record { first-length = k′ .0 ∙ k .0; second-length = k′ .1 .1 .0 ∙ k .1 .1 .0; third-length = k′ .1 .1 .1 .0 ∙ k .1 .1 .1 .0 }) (pre .0),
       (
-        kept-small kept (raised-small (c .before .before .before .before .before .before .before .before .before .before .before .before .before .before .before .before .before .before .before .before .before .before .before .before .before .before .before .before .raise .ensures) (pre .1 .0) (pre .1 .1 .1 .1 .1) (nodes .0) (nodes .1) (nodes .2)),
+        kept-small kept (raised-small (c .before .before .before .before .before .before .before .before .before .before .before .before .before .before .before .before .before .before .before .before .before .before .raise .ensures) (pre .1 .0) (pre .1 .1 .1 .1 .1) (nodes .0) (nodes .1) (nodes .2)),
         (
-          desk-still (record { first-length = k .1 .1 .1 .1 .1 .1 .1 .1 .0; second-length = k .1 .1 .1 .1 .1 .1 .1 .1 .1 .0; third-length = k .1 .1 .1 .1 .1 .1 .1 .1 .1 .1 .0 }) (pre .1 .1 .0),
-          kept-covered (raised-covered (c .before .before .before .before .before .before .before .before .before .before .before .before .before .before .before .before .before .before .before .before .before .before .before .before .before .before .before .before .raise .ensures)) kept,
+          still-fits (k .1 .1 .1 .1 .1 .1 .1 .1 .0) (pre .1 .1 .0),
+          kept-covered (raised-covered (c .before .before .before .before .before .before .before .before .before .before .before .before .before .before .before .before .before .before .before .before .before .before .raise .ensures)) kept,
         ),
       ),
     )
@@ -48,20 +47,14 @@ same-length-3 c = search needs
 same-length-4 : tie.Need-same-length-4
 same-length-4 c = search needs
 
-same-length-5 : tie.Need-same-length-5
-same-length-5 c = search needs
-
-same-length-6 : tie.Need-same-length-6
-same-length-6 c = search needs
-
 returns : tie.Need-returns
 returns c = (
   record {
-    still = raised-still (c .before .before .before .before .before .before .before .before .before .before .before .before .before .before .before .before .before .before .before .before .before .before .before .before .before .before .before .before .before .before .before .before .before .before .before .before .before .before .before .before .before .raise .ensures) (kept-on (c .before .before .before .before .before .before .before .before .before .before .before .before .before .before .before .before .before .before .before .before .before .before .before .before .before .bring-back .ensures) (c .before .before .before .before .before .before .before .before .before .before .before .before .rebalance .ensures .0)) (c .before .before .before .before .before .before .before .before .before .before .before .before .rebalance .ensures .1);
+    still = raised-still (c .before .before .before .before .before .before .before .before .before .before .before .before .before .before .before .before .before .before .before .before .before .before .before .before .before .before .before .before .before .before .before .raise .ensures) (kept-on (c .before .before .before .before .before .before .before .before .before .before .before .before .before .before .before .before .before .before .before .bring-back .ensures) (c .before .before .before .before .before .before .before .before .rebalance .ensures .0)) (c .before .before .before .before .before .before .before .before .rebalance .ensures .1);
     set = _;
-    measure = c .before .before .before .before .before .before .before .before .before .before .before .before .before .before .before .before .before .before .before .before .before .before .before .before .before .before .before .before .before .before .before .before .before .before .before .before .before .before .before .before .before .raise .ensures .measure;
+    measure = c .before .before .before .before .before .before .before .before .before .before .before .before .before .before .before .before .before .before .before .before .before .before .before .before .before .before .before .before .before .before .before .raise .ensures .measure;
   },
-  c .before .before .before .before .before .before .before .before .before .before .before .before .rebalance .ensures .1,
+  c .before .before .before .before .before .before .before .before .rebalance .ensures .1,
 )
 
 pub measure-spec : {M : Type 1} → statement M
@@ -75,6 +68,4 @@ measure-spec =
     same-length-2
     same-length-3
     same-length-4
-    same-length-5
-    same-length-6
     returns)

@@ -1,12 +1,12 @@
 -- Outside the narrowed range nothing is written; inside it some flow has the count.
 use mathlib.Core.Path.{refl}
-use Rattle.engine.proofs.Sweeping.{lent-still, desk-still}
+use Rattle.engine.proofs.Sweeping.{lent-still, still-fits}
 use borrow.Author.Needs.{needs}
 use Rattle.held.proofs.request.hold_and_write.Statement.{statement}
 use Rattle.held.proofs.request.hold_and_write.Tie as tie
 
 out-of-range-requires : tie.Need-out-of-range-requires
-out-of-range-requires c κs = let pre = c .before .before .before .before .before .before .before .before .before .before .before .before .before .before .pre in (pre .0, (pre .1 .0, (pre .1 .1 .1 .0, (pre .1 .1 .1 .1 .0, pre .1 .1 .1 .1 .1))))
+out-of-range-requires c κs = let pre = c .before .before .before .before .before .before .before .before .before .before .pre in (pre .0, (pre .1 .0, (pre .1 .1 .1 .0, (pre .1 .1 .1 .1 .0, pre .1 .1 .1 .1 .1))))
 
 same-length : tie.Need-same-length
 same-length c = search needs
@@ -20,20 +20,20 @@ same-length-3 c = search needs
 same-length-4 : tie.Need-same-length-4
 same-length-4 c = search needs
 
+returns : tie.Need-returns
+returns c = (c .before .before .before .before .before .before .before .before .before .out-of-range .ensures .0 (c .if1 .taken), refl)
+
+write-held-requires : tie.Need-write-held-requires
+write-held-requires c κs =
+    let pre = c .before .before .before .before .before .before .before .before .before .before .before .before .before .before .before .before .before .before .before .before .before .before .before .before .before .pre in
+    let k = c .before .before .before .before .before .before .before .before .before .before .before .before .before .before .out-of-range .kept in
+    (pre .0, (pre .1 .0, (pre .1 .1 .0, (lent-still (record { first-length = k .1 .1 .1 .1 .0; second-length = k .1 .1 .1 .1 .1 .0; third-length = k .1 .1 .1 .1 .1 .1 .0 }) (pre .1 .1 .1 .0), (still-fits (k .1 .1 .1 .1 .1 .1 .1 .0) (pre .1 .1 .1 .1 .0), (c .before .before .before .before .before .before .before .before .before .before .before .before .before .before .out-of-range .ensures .1 .1, c .before .before .before .before .before .before .before .before .before .before .before .before .before .before .out-of-range .ensures .1 .0 (c .before .before .before .before .before .if1 .left)))))))
+
 same-length-5 : tie.Need-same-length-5
 same-length-5 c = search needs
 
 same-length-6 : tie.Need-same-length-6
 same-length-6 c = search needs
-
-returns : tie.Need-returns
-returns c = (c .before .before .before .before .before .before .before .before .before .before .before .before .before .out-of-range .ensures .0 (c .if1 .taken), refl)
-
-write-held-requires : tie.Need-write-held-requires
-write-held-requires c κs =
-    let pre = c .before .before .before .before .before .before .before .before .before .before .before .before .before .before .before .before .before .before .before .before .before .before .before .before .before .before .before .before .before .before .before .before .before .before .before .pre in
-    let k = c .before .before .before .before .before .before .before .before .before .before .before .before .before .before .before .before .before .before .before .before .out-of-range .kept in
-    (pre .0, (pre .1 .0, (pre .1 .1 .0, (lent-still (record { first-length = k .1 .1 .1 .1 .0; second-length = k .1 .1 .1 .1 .1 .0; third-length = k .1 .1 .1 .1 .1 .1 .0 }) (pre .1 .1 .1 .0), (desk-still (record { first-length = k .1 .1 .1 .1 .1 .1 .1 .0; second-length = k .1 .1 .1 .1 .1 .1 .1 .1 .0; third-length = k .1 .1 .1 .1 .1 .1 .1 .1 .1 .0 }) (pre .1 .1 .1 .1 .0), (c .before .before .before .before .before .before .before .before .before .before .before .before .before .before .before .before .before .before .before .before .out-of-range .ensures .1 .1, c .before .before .before .before .before .before .before .before .before .before .before .before .before .before .before .before .before .before .before .before .out-of-range .ensures .1 .0 (c .before .before .before .before .before .before .before .if1 .left)))))))
 
 same-length-7 : tie.Need-same-length-7
 same-length-7 c = search needs
@@ -43,18 +43,6 @@ same-length-8 c = search needs
 
 same-length-9 : tie.Need-same-length-9
 same-length-9 c = search needs
-
-same-length-10 : tie.Need-same-length-10
-same-length-10 c = search needs
-
-same-length-11 : tie.Need-same-length-11
-same-length-11 c = search needs
-
-same-length-12 : tie.Need-same-length-12
-same-length-12 c = search needs
-
-same-length-13 : tie.Need-same-length-13
-same-length-13 c = search needs
 
 returns-2 : tie.Need-returns-2
 returns-2 c = search needs
@@ -68,15 +56,11 @@ hold-and-write-spec =
     same-length-2
     same-length-3
     same-length-4
-    same-length-5
-    same-length-6
     returns
     write-held-requires
+    same-length-5
+    same-length-6
     same-length-7
     same-length-8
     same-length-9
-    same-length-10
-    same-length-11
-    same-length-12
-    same-length-13
     returns-2)

@@ -1,20 +1,20 @@
 -- The count is tested against both ends; between them some flow has it.
 use mathlib.Core.Path.{sym, _∙_}
 use Rattle.plan.specs.Plan.{plan-of}
-use Rattle.engine.proofs.Sweeping.{lent-still, desk-still}
+use Rattle.engine.proofs.Sweeping.{lent-still, still-fits}
 use Rattle.held.proofs.Answering.{count-outside, count-possible}
 use borrow.Author.Needs.{needs}
 use Rattle.held.proofs.request.out_of_range.Statement.{statement}
 use Rattle.held.proofs.request.out_of_range.Tie as tie
 
 end-for-requires : tie.Need-end-for-requires
-end-for-requires c κs = let pre = c .before .before .before .before .before .before .before .before .before .before .before .before .before .pre in (pre .0, (pre .1 .1 .0, (pre .1 .1 .1 .0, (pre .1 .0, pre .1 .1 .1 .1))))
+end-for-requires c κs = let pre = c .before .before .before .before .before .before .before .before .before .pre in (pre .0, (pre .1 .1 .0, (pre .1 .1 .1 .0, (pre .1 .0, pre .1 .1 .1 .1))))
 
 end-for-requires-2 : tie.Need-end-for-requires-2
 end-for-requires-2 c κs =
-    let pre = c .before .before .before .before .before .before .before .before .before .before .before .before .before .before .before .before .before .before .before .before .before .before .before .before .before .before .before .before .before .before .before .before .pre in
-    let k = c .before .before .before .before .before .before .before .before .before .before .before .before .before .before .before .before .before .before .end-for .kept in
-    (pre .0, (lent-still (record { first-length = k .1 .1 .1 .1 .0; second-length = k .1 .1 .1 .1 .1 .0; third-length = k .1 .1 .1 .1 .1 .1 .0 }) (pre .1 .1 .0), (desk-still (record { first-length = k .1 .1 .1 .1 .1 .1 .1 .0; second-length = k .1 .1 .1 .1 .1 .1 .1 .1 .0; third-length = k .1 .1 .1 .1 .1 .1 .1 .1 .1 .0 }) (pre .1 .1 .1 .0), (pre .1 .0, c .before .before .before .before .before .before .before .before .before .before .before .before .before .before .before .before .before .before .end-for .ensures .1))))
+    let pre = c .before .before .before .before .before .before .before .before .before .before .before .before .before .before .before .before .before .before .before .before .before .before .pre in
+    let k = c .before .before .before .before .before .before .before .before .before .before .before .before .end-for .kept in
+    (pre .0, (lent-still (record { first-length = k .1 .1 .1 .1 .0; second-length = k .1 .1 .1 .1 .1 .0; third-length = k .1 .1 .1 .1 .1 .1 .0 }) (pre .1 .1 .0), (still-fits (k .1 .1 .1 .1 .1 .1 .1 .0) (pre .1 .1 .1 .0), (pre .1 .0, c .before .before .before .before .before .before .before .before .before .before .before .before .end-for .ensures .1))))
 
 outside-requires : tie.Need-outside-requires
 outside-requires c κs = search needs
@@ -31,22 +31,16 @@ same-length-3 c = search needs
 same-length-4 : tie.Need-same-length-4
 same-length-4 c = search needs
 
-same-length-5 : tie.Need-same-length-5
-same-length-5 c = search needs
-
-same-length-6 : tie.Need-same-length-6
-same-length-6 c = search needs
-
 returns : tie.Need-returns
 returns c =
-    let p = plan-of (c .before .before .before .before .before .before .before .before .before .before .before .before .before .before .before .before .before .before .before .before .before .before .before .before .before .before .before .before .before .before .before .before .before .before .before .before .before .before .before .before .before .before .before .before .before .before .args .arcs .now) (c .before .before .before .before .before .before .before .before .before .before .before .before .before .before .before .before .before .before .before .before .before .before .before .before .before .before .before .before .before .before .before .before .before .before .before .before .before .before .before .before .before .before .before .before .before .before .args .supplies .now) in
-    let k = c .before .before .before .before .before .before .before .before .before .before .before .before .before .before .before .before .before .before .before .before .before .before .before .before .before .before .before .before .before .before .before .before .before .before .before .before .before .before .before .before .before .before .before .before .before .before .args .k in
-    let count = c .before .before .before .before .before .before .before .before .before .before .before .before .before .before .before .before .before .before .before .before .before .before .before .before .before .before .before .before .before .before .before .before .before .before .before .before .before .before .before .before .before .before .before .before .before .before .args .count in
+    let p = plan-of (c .before .before .before .before .before .before .before .before .before .before .before .before .before .before .before .before .before .before .before .before .before .before .before .before .before .before .before .before .before .before .before .before .args .arcs .now) (c .before .before .before .before .before .before .before .before .before .before .before .before .before .before .before .before .before .before .before .before .before .before .before .before .before .before .before .before .before .before .before .before .args .supplies .now) in
+    let k = c .before .before .before .before .before .before .before .before .before .before .before .before .before .before .before .before .before .before .before .before .before .before .before .before .before .before .before .before .before .before .before .before .args .k in
+    let count = c .before .before .before .before .before .before .before .before .before .before .before .before .before .before .before .before .before .before .before .before .before .before .before .before .before .before .before .before .before .before .before .before .args .count in
     let is = c .outside .ensures in (
-      λ e. count-outside {p = p} {k = k} (c .before .before .before .before .before .before .before .before .before .before .before .before .before .before .before .before .before .before .before .before .before .before .before .before .before .before .before .before .before .before .before .before .end-for .ensures .0) (c .before .before .before .before .before .before .before .before .before .before .before .before .before .end-for2 .ensures .0) count (sym is ∙ e),
+      λ e. count-outside {p = p} {k = k} (c .before .before .before .before .before .before .before .before .before .before .before .before .before .before .before .before .before .before .before .before .before .before .end-for .ensures .0) (c .before .before .before .before .before .before .before .before .before .end-for2 .ensures .0) count (sym is ∙ e),
       (
-        λ e. count-possible {p = p} {k = k} (c .before .before .before .before .before .before .before .before .before .before .before .before .before .before .before .before .before .before .before .before .before .before .before .before .before .before .before .before .before .before .before .before .end-for .ensures .0) (c .before .before .before .before .before .before .before .before .before .before .before .before .before .end-for2 .ensures .0) count (c .before .before .before .before .before .before .before .before .before .before .before .before .before .before .before .before .before .before .before .before .before .before .before .before .before .before .before .before .before .before .before .before .before .before .before .before .before .before .before .before .before .before .before .before .before .before .pre .0) (c .before .before .before .before .before .before .before .before .before .before .before .before .before .before .before .before .before .before .before .before .before .before .before .before .before .before .before .before .before .before .before .before .before .before .before .before .before .before .before .before .before .before .before .before .before .before .pre .1 .0) (sym is ∙ e),
-        c .before .before .before .before .before .before .before .before .before .before .before .before .before .end-for2 .ensures .1,
+        λ e. count-possible {p = p} {k = k} (c .before .before .before .before .before .before .before .before .before .before .before .before .before .before .before .before .before .before .before .before .before .before .end-for .ensures .0) (c .before .before .before .before .before .before .before .before .before .end-for2 .ensures .0) count (c .before .before .before .before .before .before .before .before .before .before .before .before .before .before .before .before .before .before .before .before .before .before .before .before .before .before .before .before .before .before .before .before .pre .0) (c .before .before .before .before .before .before .before .before .before .before .before .before .before .before .before .before .before .before .before .before .before .before .before .before .before .before .before .before .before .before .before .before .pre .1 .0) (sym is ∙ e),
+        c .before .before .before .before .before .before .before .before .before .end-for2 .ensures .1,
       ),
     )
 
@@ -61,6 +55,4 @@ out-of-range-spec =
     same-length-2
     same-length-3
     same-length-4
-    same-length-5
-    same-length-6
     returns)

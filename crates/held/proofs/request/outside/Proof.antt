@@ -1,6 +1,5 @@
 -- The two tests, one after the other, are the definition's.
 use borrow.Author.Tests.{lt-ltb, le-ltb}
-use borrow.Author.Needs.{needs}
 use Rattle.held.proofs.request.outside.Statement.{statement}
 use Rattle.held.proofs.request.outside.Tie as tie
 

@@ -17,25 +17,19 @@ slice-aggregate-work-out-on-3 c = search needs
 slice-aggregate-work-out-on-4 : tie.Need-slice-aggregate-work-out-on-4
 slice-aggregate-work-out-on-4 c = search needs
 
-slice-aggregate-work-out-on-5 : tie.Need-slice-aggregate-work-out-on-5
-slice-aggregate-work-out-on-5 c = search needs
-
-slice-aggregate-work-out-on-6 : tie.Need-slice-aggregate-work-out-on-6
-slice-aggregate-work-out-on-6 c = search needs
-
 work-out-on-requires : tie.Need-work-out-on-requires
 work-out-on-requires c κs =
-    let few = c .before .before .before .before .before .before .before .before .before .pre .0 .nodes-fit in (
-      c .before .before .before .before .before .before .before .before .before .pre .0,
+    let few = c .before .before .before .before .before .before .before .pre .0 .nodes-fit in (
+      c .before .before .before .before .before .before .before .pre .0,
       (
-        c .before .before .before .before .before .before .before .before .before .pre .1 .0,
+        c .before .before .before .before .before .before .before .pre .1 .0,
         (
-          c .before .before .before .before .before .before .before .before .before .pre .1 .1,
+          c .before .before .before .before .before .before .before .pre .1 .1,
           (
             record { nodes-fit = few; rooms-whole = lit≤ tt; over-whole = few; under-whole = few },
             (
               λ i. (zeros 4096 i, zeros 64 i, zeros 64 i),
-              record { marks-whole = few; order-whole = few; finder-whole = few },
+              few,
             ),
           ),
         ),
@@ -56,8 +50,6 @@ work-out-spec =
     slice-aggregate-work-out-on-2
     slice-aggregate-work-out-on-3
     slice-aggregate-work-out-on-4
-    slice-aggregate-work-out-on-5
-    slice-aggregate-work-out-on-6
     work-out-on-requires
     same-length
     returns)

@@ -1,11 +1,11 @@
 -- The loop writes one end a turn: below k the entries are the arcs' ends, and the plan stands ready.
 use Prim.Native.Nat.{_-_, _/_, _≤_}
 use mathlib.Core.Bool.{false}
-use mathlib.Core.Path.{refl, _∙_}
+use mathlib.Core.Path.{_≡_, refl, _∙_}
 use lib.ListN.{length}
 use native.Mathlib.Omega.{arith}
 use Rattle.engine.specs.Room.{at, seen, SameLengths}
-use Rattle.engine.proofs.Sweeping.{lent-still, desk-still}
+use Rattle.engine.proofs.Sweeping.{lent-still, still-fits}
 use Rattle.plan.specs.Limits.{arc-entries}
 use Rattle.plan.specs.Plan.{plan-of}
 use Rattle.plan.specs.Reason.{NarrowedEnd}
@@ -16,34 +16,34 @@ use Rattle.narrow.proofs.request.write_ends.Statement.{statement}
 use Rattle.narrow.proofs.request.write_ends.Tie as tie
 
 abbrev Inv-loop : tie.InvT-loop
-Inv-loop arcs supplies upper ends₀ rooms₀ over₀ under₀ marks₀ order₀ finder₀ count k₀ ends rooms over under marks order finder k =
+Inv-loop arcs supplies upper ends₀ rooms₀ over₀ under₀ marks₀ count k₀ ends rooms over under marks k =
     (k ≤ length arcs / arc-entries) × Filled (λ i x. NarrowedEnd (plan-of arcs supplies) i upper x) k ends₀ ends
-    × SameLengths rooms₀ over₀ under₀ rooms over under × SameLengths marks₀ order₀ finder₀ marks order finder
+    × SameLengths rooms₀ over₀ under₀ rooms over under × (length marks ≡ length marks₀)
     × Ready (plan-of arcs supplies) (seen rooms false) (at over) (at under)
 
 abbrev μ-loop : tie.MeasureT-loop
-μ-loop arcs supplies upper ends₀ rooms₀ over₀ under₀ marks₀ order₀ finder₀ count k₀ ends rooms over under marks order finder k = length arcs / arc-entries - k
+μ-loop arcs supplies upper ends₀ rooms₀ over₀ under₀ marks₀ count k₀ ends rooms over under marks k = length arcs / arc-entries - k
 
 loop-holds : tie.Need-loop-holds Inv-loop μ-loop
 loop-holds c = (
   omega arith,
   filled-begins,
   record { first-length = refl; second-length = refl; third-length = refl },
-  record { first-length = refl; second-length = refl; third-length = refl },
-  c .before .before .before .before .before .before .before .before .pre .1 .1 .1 .0,
+  refl,
+  c .before .before .before .before .before .before .pre .1 .1 .1 .0,
 )
 
 end-for-requires : tie.Need-end-for-requires Inv-loop μ-loop
 end-for-requires c κs =
-    let pre = c .before .before .before .before .before .before .before .before .before .before .before .before .before .before .before .before .pre in
-    let inv = c .before .before .before .before .before .before .before .loop .inv in
-    (pre .0, (lent-still (inv .2) (pre .1 .0), (desk-still (inv .3) (pre .1 .1 .0), (c .before .before .before .before .before .before .loop-test .taken, inv .4))))
+    let pre = c .before .before .before .before .before .before .before .before .before .before .before .before .pre in
+    let inv = c .before .before .before .before .before .loop .inv in
+    (pre .0, (lent-still (inv .2) (pre .1 .0), (still-fits (inv .3) (pre .1 .1 .0), (c .before .before .before .before .loop-test .taken, inv .4))))
 
 mul-ends : tie.Need-mul-ends Inv-loop μ-loop
 mul-ends c = search needs
 
 slice-write-ends : tie.Need-slice-write-ends Inv-loop μ-loop
-slice-write-ends c = omega (arith, c .before .before .before .before .before .before .before .before .before .before .before .before .before .before .before .before .before .before .before .before .loop .inv .1 .same-length, c .before .before .before .before .before .before .before .before .before .before .before .before .before .before .before .before .before .before .before .before .before .before .before .before .before .before .before .before .before .pre .1 .1 .1 .1)
+slice-write-ends c = omega (arith, c .before .before .before .before .before .before .before .before .before .before .before .before .before .before .loop .inv .1 .same-length, c .before .before .before .before .before .before .before .before .before .before .before .before .before .before .before .before .before .before .before .before .before .pre .1 .1 .1 .1)
 
 add-k : tie.Need-add-k Inv-loop μ-loop
 add-k c = search needs
@@ -53,14 +53,14 @@ loop-less c = omega arith
 
 loop-again : tie.Need-loop-again Inv-loop μ-loop
 loop-again c =
-    let pre = c .before .before .before .before .before .before .before .before .before .before .before .before .before .before .before .before .before .before .before .before .before .before .before .before .before .before .before .before .before .pre in
-    let inv = c .before .before .before .before .before .before .before .before .before .before .before .before .before .before .before .before .before .before .before .before .loop .inv in
-    let k = c .before .before .before .before .before .before .before .before .before .before .before .before .end-for .kept in (
+    let pre = c .before .before .before .before .before .before .before .before .before .before .before .before .before .before .before .before .before .before .before .before .before .pre in
+    let inv = c .before .before .before .before .before .before .before .before .before .before .before .before .before .before .loop .inv in
+    let k = c .before .before .before .before .before .before .before .before .end-for .kept in (
       omega arith,
-      filled-on (c .before .before .before .before .before .before .before .before .before .before .before .before .end-for .result) (omega (arith, inv .1 .same-length, pre .1 .1 .1 .1)) (c .before .before .before .before .before .before .before .before .before .before .before .before .end-for .ensures .0) (inv .1),
+      filled-on (c .before .before .before .before .before .before .before .before .end-for .result) (omega (arith, inv .1 .same-length, pre .1 .1 .1 .1)) (c .before .before .before .before .before .before .before .before .end-for .ensures .0) (inv .1),
       record { first-length = k .1 .1 .1 .1 .0 ∙ inv .2 .first-length; second-length = k .1 .1 .1 .1 .1 .0 ∙ inv .2 .second-length; third-length = k .1 .1 .1 .1 .1 .1 .0 ∙ inv .2 .third-length },
-      record { first-length = k .1 .1 .1 .1 .1 .1 .1 .0 ∙ inv .3 .first-length; second-length = k .1 .1 .1 .1 .1 .1 .1 .1 .0 ∙ inv .3 .second-length; third-length = k .1 .1 .1 .1 .1 .1 .1 .1 .1 .0 ∙ inv .3 .third-length },
-      c .before .before .before .before .before .before .before .before .before .before .before .before .end-for .ensures .1,
+      k .1 .1 .1 .1 .1 .1 .1 .0 ∙ inv .3,
+      c .before .before .before .before .before .before .before .before .end-for .ensures .1,
     )
 
 same-length : tie.Need-same-length Inv-loop μ-loop
@@ -76,13 +76,7 @@ same-length-4 : tie.Need-same-length-4 Inv-loop μ-loop
 same-length-4 c = c .before .loop .inv .2 .third-length
 
 same-length-5 : tie.Need-same-length-5 Inv-loop μ-loop
-same-length-5 c = c .before .loop .inv .3 .first-length
-
-same-length-6 : tie.Need-same-length-6 Inv-loop μ-loop
-same-length-6 c = c .before .loop .inv .3 .second-length
-
-same-length-7 : tie.Need-same-length-7 Inv-loop μ-loop
-same-length-7 c = c .before .loop .inv .3 .third-length
+same-length-5 c = c .before .loop .inv .3
 
 returns : tie.Need-returns Inv-loop μ-loop
 returns c =
@@ -107,6 +101,4 @@ write-ends-spec =
     same-length-3
     same-length-4
     same-length-5
-    same-length-6
-    same-length-7
     returns)

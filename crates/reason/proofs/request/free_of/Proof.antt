@@ -8,7 +8,7 @@ use Rattle.reason.proofs.request.free_of.Statement.{statement}
 use Rattle.reason.proofs.request.free_of.Tie as tie
 
 arc-at-requires : tie.Need-arc-at-requires
-arc-at-requires c κs = c .before .before .before .before .before .before .before .pre .1 .0
+arc-at-requires c κs = c .before .before .before .before .before .pre .1 .0
 
 cast-from : tie.Need-cast-from
 cast-from c = search needs
@@ -17,22 +17,22 @@ cast-to : tie.Need-cast-to
 cast-to c = search needs
 
 sub-width : tie.Need-sub-width
-sub-width c = rw (c .before .before .before .arc-at .ensures) (c .before .before .before .before .before .before .before .before .before .before .before .pre .0 .uncrossed (c .before .before .before .before .before .before .before .before .before .before .before .args .k) (c .before .before .before .before .before .before .before .before .before .before .before .pre .1 .0))
+sub-width c = rw (c .before .before .before .arc-at .ensures) (c .before .before .before .before .before .before .before .before .before .pre .0 .uncrossed (c .before .before .before .before .before .before .before .before .before .args .k) (c .before .before .before .before .before .before .before .before .before .pre .1 .0))
 
 returns : tie.Need-returns
 returns c =
-    let pre = c .before .before .before .before .before .before .before .before .before .before .before .before .pre in
-    rw (c .before .before .before .before .arc-at .ensures) (loop-freed {p = plan-of (c .before .before .before .before .before .before .before .before .before .before .before .before .args .arcs .now) (c .before .before .before .before .before .before .before .before .before .before .before .before .args .supplies .now)} {k = c .before .before .before .before .before .before .before .before .before .before .before .before .args .k} (pre .0) (pre .1 .0) (pre .1 .1 .1 .1) (rw (c .before .before .before .before .arc-at .ensures) at (sym (c .if1 .taken))) (c .before .before .before .before .before .before .before .before .before .before .before .before .args .upper))
+    let pre = c .before .before .before .before .before .before .before .before .before .before .pre in
+    rw (c .before .before .before .before .arc-at .ensures) (loop-freed {p = plan-of (c .before .before .before .before .before .before .before .before .before .before .args .arcs .now) (c .before .before .before .before .before .before .before .before .before .before .args .supplies .now)} {k = c .before .before .before .before .before .before .before .before .before .before .args .k} (pre .0) (pre .1 .0) (pre .1 .1 .1 .1) (rw (c .before .before .before .before .arc-at .ensures) at (sym (c .if1 .taken))) (c .before .before .before .before .before .before .before .before .before .before .args .upper))
 
 raise-requires : tie.Need-raise-requires
 raise-requires c κs =
-    let pre = c .before .before .before .before .before .before .before .before .before .before .before .before .before .before .before .before .before .before .pre in
-    let p = plan-of (c .before .before .before .before .before .before .before .before .before .before .before .before .before .before .before .before .before .before .args .arcs .now) (c .before .before .before .before .before .before .before .before .before .before .before .before .before .before .before .before .before .before .args .supplies .now) in
-    let st = own-standing {p = p} {k = c .before .before .before .before .before .before .before .before .before .before .before .before .before .before .before .before .before .before .args .k} (pre .0) (pre .1 .0) (pre .1 .1 .1 .1) in
-    let rooms = c .before .before .before .before .before .before .before .before .before .before .before .before .before .before .before .before .before .before .args .rooms .now in
-    let upper = c .before .before .before .before .before .before .before .before .before .before .before .before .before .before .before .before .before .before .args .upper in
-    let ne : p .to (c .before .before .before .before .before .before .before .before .before .before .before .before .before .before .before .before .before .before .args .k) ≡ p .from (c .before .before .before .before .before .before .before .before .before .before .before .before .before .before .before .before .before .before .args .k) → ⊥ = λ e. c .before .before .before .before .before .before .if1 .left (rw (c .before .before .before .before .before .before .before .before .before .before .arc-at .ensures) (sym e)) in
-    rw (c .before .before .before .before .before .before .before .before .before .before .arc-at .ensures) (pre .1 .1 .0, (facing-small rooms st upper, (pre .1 .1 .1 .0, (standing-balanced st, ((standing-from st, standing-to st, ne), facing-wide rooms st upper ne)))))
+    let pre = c .before .before .before .before .before .before .before .before .before .before .before .before .before .before .pre in
+    let p = plan-of (c .before .before .before .before .before .before .before .before .before .before .before .before .before .before .args .arcs .now) (c .before .before .before .before .before .before .before .before .before .before .before .before .before .before .args .supplies .now) in
+    let st = own-standing {p = p} {k = c .before .before .before .before .before .before .before .before .before .before .before .before .before .before .args .k} (pre .0) (pre .1 .0) (pre .1 .1 .1 .1) in
+    let rooms = c .before .before .before .before .before .before .before .before .before .before .before .before .before .before .args .rooms .now in
+    let upper = c .before .before .before .before .before .before .before .before .before .before .before .before .before .before .args .upper in
+    let ne : p .to (c .before .before .before .before .before .before .before .before .before .before .before .before .before .before .args .k) ≡ p .from (c .before .before .before .before .before .before .before .before .before .before .before .before .before .before .args .k) → ⊥ = λ e. c .before .before .before .before .if1 .left (rw (c .before .before .before .before .before .before .before .before .arc-at .ensures) (sym e)) in
+    rw (c .before .before .before .before .before .before .before .before .arc-at .ensures) (pre .1 .1 .0, (facing-small rooms st upper, (pre .1 .1 .1 .0, (standing-balanced st, ((standing-from st, standing-to st, ne), facing-wide rooms st upper ne)))))
 
 same-length : tie.Need-same-length
 same-length c = search needs
@@ -46,16 +46,10 @@ same-length-3 c = search needs
 same-length-4 : tie.Need-same-length-4
 same-length-4 c = search needs
 
-same-length-5 : tie.Need-same-length-5
-same-length-5 c = search needs
-
-same-length-6 : tie.Need-same-length-6
-same-length-6 c = search needs
-
 returns-2 : tie.Need-returns-2
 returns-2 c =
-    let pre = c .before .before .before .before .before .before .before .before .before .before .before .before .before .before .before .before .before .before .before .before .before .before .before .before .before .before .before .before .before .before .before .pre in
-    raised-freed {p = plan-of (c .before .before .before .before .before .before .before .before .before .before .before .before .before .before .before .before .before .before .before .before .before .before .before .before .before .before .before .before .before .before .before .args .arcs .now) (c .before .before .before .before .before .before .before .before .before .before .before .before .before .before .before .before .before .before .before .before .before .before .before .before .before .before .before .before .before .before .before .args .supplies .now)} {k = c .before .before .before .before .before .before .before .before .before .before .before .before .before .before .before .before .before .before .before .before .before .before .before .before .before .before .before .before .before .before .before .args .k} (pre .0) (pre .1 .0) (c .before .before .before .before .before .before .before .before .before .before .before .before .before .before .before .before .before .before .before .before .before .before .before .before .before .before .before .before .before .before .before .args .rooms .now) (pre .1 .1 .1 .1) (c .before .before .before .before .before .before .before .before .before .before .before .before .before .before .before .before .before .before .before .before .before .before .before .before .before .before .before .before .before .before .before .args .upper) (rw (c .before .before .before .before .before .before .before .before .before .before .before .before .before .before .before .before .before .before .before .before .before .before .before .arc-at .ensures) at (c .before .before .before .before .before .before .before .before .before .before .before .before .raise .ensures))
+    let pre = c .before .before .before .before .before .before .before .before .before .before .before .before .before .before .before .before .before .before .before .before .before .before .before .pre in
+    raised-freed {p = plan-of (c .before .before .before .before .before .before .before .before .before .before .before .before .before .before .before .before .before .before .before .before .before .before .before .args .arcs .now) (c .before .before .before .before .before .before .before .before .before .before .before .before .before .before .before .before .before .before .before .before .before .before .before .args .supplies .now)} {k = c .before .before .before .before .before .before .before .before .before .before .before .before .before .before .before .before .before .before .before .before .before .before .before .args .k} (pre .0) (pre .1 .0) (c .before .before .before .before .before .before .before .before .before .before .before .before .before .before .before .before .before .before .before .before .before .before .before .args .rooms .now) (pre .1 .1 .1 .1) (c .before .before .before .before .before .before .before .before .before .before .before .before .before .before .before .before .before .before .before .before .before .before .before .args .upper) (rw (c .before .before .before .before .before .before .before .before .before .before .before .before .before .before .before .before .before .arc-at .ensures) at (c .before .before .before .before .before .before .before .before .raise .ensures))
 
 pub free-of-spec : {M : Type 1} → statement M
 free-of-spec =
@@ -71,6 +65,4 @@ free-of-spec =
     same-length-2
     same-length-3
     same-length-4
-    same-length-5
-    same-length-6
     returns-2)

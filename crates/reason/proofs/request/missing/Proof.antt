@@ -1,6 +1,5 @@
 -- The two tests, one after the other, are the definition's.
 use borrow.Author.Tests.{le-leb, lt-leb}
-use borrow.Author.Needs.{needs}
 use Rattle.reason.proofs.request.missing.Statement.{statement}
 use Rattle.reason.proofs.request.missing.Tie as tie
 

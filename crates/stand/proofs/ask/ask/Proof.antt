@@ -12,13 +12,13 @@ use Rattle.stand.proofs.ask.ask.Statement.{statement}
 use Rattle.stand.proofs.ask.ask.Tie as tie
 
 build-requires : tie.Need-build-requires
-build-requires c κs = (c .before .before .before .before .before .before .before .before .before .before .pre .0, (c .before .before .before .before .before .before .before .before .before .before .pre .1 .0, c .before .before .before .before .before .before .before .before .before .before .pre .1 .1 .0))
+build-requires c κs = (c .before .before .before .before .before .before .before .before .pre .0, (c .before .before .before .before .before .before .before .before .pre .1 .0, c .before .before .before .before .before .before .before .before .pre .1 .1 .0))
 
 settle-requires : tie.Need-settle-requires
-settle-requires c κs = (lent-still (record { first-length = c .before .before .before .before .before .before .before .before .before .before .before .before .build .kept .1 .1 .0; second-length = c .before .before .before .before .before .before .before .before .before .before .before .before .build .kept .1 .1 .1 .0; third-length = c .before .before .before .before .before .before .before .before .before .before .before .before .build .kept .1 .1 .1 .1 .0 }) (c .before .before .before .before .before .before .before .before .before .before .before .before .before .before .before .before .before .before .before .before .before .before .before .pre .1 .0), (c .before .before .before .before .before .before .before .before .before .before .before .before .build .ensures .1, c .before .before .before .before .before .before .before .before .before .before .before .before .before .before .before .before .before .before .before .before .before .before .before .pre .1 .1 .1))
+settle-requires c κs = (lent-still (record { first-length = c .before .before .before .before .before .before .before .before .before .before .build .kept .1 .1 .0; second-length = c .before .before .before .before .before .before .before .before .before .before .build .kept .1 .1 .1 .0; third-length = c .before .before .before .before .before .before .before .before .before .before .build .kept .1 .1 .1 .1 .0 }) (c .before .before .before .before .before .before .before .before .before .before .before .before .before .before .before .before .before .before .before .pre .1 .0), (c .before .before .before .before .before .before .before .before .before .before .build .ensures .1, c .before .before .before .before .before .before .before .before .before .before .before .before .before .before .before .before .before .before .before .pre .1 .1 .1))
 
 total-of-requires : tie.Need-total-of-requires
-total-of-requires c κs = (c .before .before .before .before .before .before .before .before .before .before .before .before .before .before .before .before .before .before .before .before .before .before .before .before .before .before .before .before .before .before .before .before .before .before .before .before .before .pre .0 .nodes-fit, omega (arith, c .before .before .before .before .before .before .before .before .before .before .before .before .before .settle .kept .1 .1 .0, c .before .before .before .before .before .before .before .before .before .before .before .before .before .before .before .before .before .before .before .before .before .before .before .before .before .before .build .kept .1 .1 .1 .0, c .before .before .before .before .before .before .before .before .before .before .before .before .before .before .before .before .before .before .before .before .before .before .before .before .before .before .before .before .before .before .before .before .before .before .before .before .before .pre .1 .0 .over-whole))
+total-of-requires c κs = (c .before .before .before .before .before .before .before .before .before .before .before .before .before .before .before .before .before .before .before .before .before .before .before .before .before .before .before .before .before .pre .0 .nodes-fit, omega (arith, c .before .before .before .before .before .before .before .before .before .settle .kept .1 .1 .0, c .before .before .before .before .before .before .before .before .before .before .before .before .before .before .before .before .before .before .before .before .build .kept .1 .1 .1 .0, c .before .before .before .before .before .before .before .before .before .before .before .before .before .before .before .before .before .before .before .before .before .before .before .before .before .before .before .before .before .pre .1 .0 .over-whole))
 
 same-length : tie.Need-same-length
 same-length c = search needs
@@ -32,16 +32,16 @@ same-length-3 c = search needs
 same-length-4 : tie.Need-same-length-4
 same-length-4 c = search needs
 
+returns : tie.Need-returns
+returns c =
+    let bits = ap (ofZ w64) (c .before .total-of .ensures) in
+    told-ready (asked-ready (c .before .before .before .before .before .before .before .before .before .before .before .before .before .before .before .before .before .before .before .before .before .before .before .before .before .before .before .before .before .before .before .pre .0) (c .before .before .before .before .before .before .before .before .before .before .before .before .before .before .before .before .before .before .before .before .before .before .build .ensures .0) (c .before .before .before .before .before .before .before .before .before .before .before .settle .ensures) (c .before .before .before .before .before .before .before .before .before .before .before .before .before .before .before .before .before .before .before .before .before .before .build .ensures .1) (sym bits ∙ c .if1 .taken))
+
 same-length-5 : tie.Need-same-length-5
 same-length-5 c = search needs
 
 same-length-6 : tie.Need-same-length-6
 same-length-6 c = search needs
-
-returns : tie.Need-returns
-returns c =
-    let bits = ap (ofZ w64) (c .before .total-of .ensures) in
-    told-ready (asked-ready (c .before .before .before .before .before .before .before .before .before .before .before .before .before .before .before .before .before .before .before .before .before .before .before .before .before .before .before .before .before .before .before .before .before .before .before .before .before .before .before .pre .0) (c .before .before .before .before .before .before .before .before .before .before .before .before .before .before .before .before .before .before .before .before .before .before .before .before .before .before .before .before .build .ensures .0) (c .before .before .before .before .before .before .before .before .before .before .before .before .before .before .before .settle .ensures) (c .before .before .before .before .before .before .before .before .before .before .before .before .before .before .before .before .before .before .before .before .before .before .before .before .before .before .before .before .build .ensures .1) (sym bits ∙ c .if1 .taken))
 
 same-length-7 : tie.Need-same-length-7
 same-length-7 c = search needs
@@ -49,23 +49,11 @@ same-length-7 c = search needs
 same-length-8 : tie.Need-same-length-8
 same-length-8 c = search needs
 
-same-length-9 : tie.Need-same-length-9
-same-length-9 c = search needs
-
-same-length-10 : tie.Need-same-length-10
-same-length-10 c = search needs
-
-same-length-11 : tie.Need-same-length-11
-same-length-11 c = search needs
-
-same-length-12 : tie.Need-same-length-12
-same-length-12 c = search needs
-
 returns-2 : tie.Need-returns-2
 returns-2 c =
     let bits = ap (ofZ w64) (c .before .total-of .ensures) in
     rw (toZ-ofZ {w = w64} {z = c .before .total-of .result} (record { sfits = c .before .total-of .ok }), c .before .total-of .ensures)
-    (told-short (asked-short (c .before .before .before .before .before .before .before .before .before .before .before .before .before .before .before .before .before .before .before .before .before .before .before .before .before .before .before .before .before .before .before .before .before .before .before .before .before .before .before .pre .0) (c .before .before .before .before .before .before .before .before .before .before .before .before .before .before .before .before .before .before .before .before .before .before .before .before .before .before .before .before .build .ensures .0) (c .before .before .before .before .before .before .before .before .before .before .before .before .before .before .before .settle .ensures) (pos-of-ne-zero (λ e. c .if1 .left (bits ∙ e)))))
+    (told-short (asked-short (c .before .before .before .before .before .before .before .before .before .before .before .before .before .before .before .before .before .before .before .before .before .before .before .before .before .before .before .before .before .before .before .pre .0) (c .before .before .before .before .before .before .before .before .before .before .before .before .before .before .before .before .before .before .before .before .before .before .build .ensures .0) (c .before .before .before .before .before .before .before .before .before .before .before .settle .ensures) (pos-of-ne-zero (λ e. c .if1 .left (bits ∙ e)))))
 
 pub ask-spec : {M : Type 1} → statement M
 ask-spec =
@@ -78,13 +66,9 @@ ask-spec =
     same-length-2
     same-length-3
     same-length-4
+    returns
     same-length-5
     same-length-6
-    returns
     same-length-7
     same-length-8
-    same-length-9
-    same-length-10
-    same-length-11
-    same-length-12
     returns-2)

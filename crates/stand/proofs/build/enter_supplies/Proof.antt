@@ -9,7 +9,7 @@ use mir.Syntax.{w32}
 use mir.Val.{toZ, ofZ}
 use mir.Facts.{toZ-ofZ}
 use borrow.Author.Needs.{needs}
-use Rattle.numbers.proofs.Parts.{plus, minus}
+use Rattle.numbers.specs.Parts.{plus, minus}
 use Rattle.plan.specs.Limits.{most-supply}
 use Rattle.stand.specs.Written.{Written}
 use Rattle.stand.proofs.Building.{written-none, written-more}

@@ -5,7 +5,8 @@ use lib.IntN.{natAbs, pos, _-ℤ_}
 use mir.Syntax.{w32}
 use mir.Val.{toZ, ofZ, SFits}
 use mir.Facts.{toZ-ofZ}
-use Rattle.numbers.proofs.Parts.{minus, magnitude, magnitude-range}
+use Rattle.numbers.specs.Parts.{minus}
+use Rattle.numbers.proofs.Parts.{magnitude, magnitude-range}
 use Rattle.stand.proofs.Building.{positive-lacks, negative-lacks}
 use Rattle.stand.proofs.build.lacks.Statement.{statement}
 use Rattle.stand.proofs.build.lacks.Tie as tie

@@ -1,7 +1,7 @@
 -- The arc's numbers are the plan's, so its end is the plan's.
-use borrow.Author.Needs.{needs}
 use Rattle.plan.specs.Plan.{plan-of}
 use Rattle.stand.proofs.OneArc.{own-standing}
+use borrow.Author.Needs.{needs}
 use Rattle.stand.proofs.ends.end_for.Statement.{statement}
 use Rattle.stand.proofs.ends.end_for.Tie as tie
 
@@ -16,9 +16,9 @@ cast-to c = search needs
 
 end-of-requires : tie.Need-end-of-requires
 end-of-requires c κs =
-    let pre = c .before .before .before .before .before .before .before .before .before .before .before .before .before .before .before .before .pre in
-    let p = plan-of (c .before .before .before .before .before .before .before .before .before .before .before .before .before .before .before .before .args .arcs .now) (c .before .before .before .before .before .before .before .before .before .before .before .before .before .before .before .before .args .supplies .now) in
-    (pre .1 .0, (pre .1 .1 .0, (p, (c .before .before .before .before .before .before .before .before .before .before .before .before .before .before .before .before .args .k, rw (c .before .before .before .before .before .before .before .before .arc-at .ensures) (own-standing {p = p} {k = c .before .before .before .before .before .before .before .before .before .before .before .before .before .before .before .before .args .k} (pre .0) (pre .1 .1 .1 .0) (pre .1 .1 .1 .1))))))
+    let pre = c .before .before .before .before .before .before .before .before .before .before .before .before .pre in
+    let p = plan-of (c .before .before .before .before .before .before .before .before .before .before .before .before .args .arcs .now) (c .before .before .before .before .before .before .before .before .before .before .before .before .args .supplies .now) in
+    (pre .1 .0, (pre .1 .1 .0, (p, (c .before .before .before .before .before .before .before .before .before .before .before .before .args .k, rw (c .before .before .before .before .before .before .arc-at .ensures) (own-standing {p = p} {k = c .before .before .before .before .before .before .before .before .before .before .before .before .args .k} (pre .0) (pre .1 .1 .1 .0) (pre .1 .1 .1 .1))))))
 
 same-length : tie.Need-same-length
 same-length c = search needs
@@ -32,17 +32,11 @@ same-length-3 c = search needs
 same-length-4 : tie.Need-same-length-4
 same-length-4 c = search needs
 
-same-length-5 : tie.Need-same-length-5
-same-length-5 c = search needs
-
-same-length-6 : tie.Need-same-length-6
-same-length-6 c = search needs
-
 returns : tie.Need-returns
 returns c =
-    let pre = c .before .before .before .before .before .before .before .before .before .before .before .before .before .before .before .before .before .before .before .before .before .before .before .before .before .before .before .before .before .pre in
-    let p = plan-of (c .before .before .before .before .before .before .before .before .before .before .before .before .before .before .before .before .before .before .before .before .before .before .before .before .before .before .before .before .before .args .arcs .now) (c .before .before .before .before .before .before .before .before .before .before .before .before .before .before .before .before .before .before .before .before .before .before .before .before .before .before .before .before .before .args .supplies .now) in
-    c .before .before .before .before .before .before .before .before .before .before .before .before .end-of .ensures p (c .before .before .before .before .before .before .before .before .before .before .before .before .before .before .before .before .before .before .before .before .before .before .before .before .before .before .before .before .before .args .k) (rw (c .before .before .before .before .before .before .before .before .before .before .before .before .before .before .before .before .before .before .before .before .before .arc-at .ensures) (own-standing {p = p} {k = c .before .before .before .before .before .before .before .before .before .before .before .before .before .before .before .before .before .before .before .before .before .before .before .before .before .before .before .before .before .args .k} (pre .0) (pre .1 .1 .1 .0) (pre .1 .1 .1 .1)))
+    let pre = c .before .before .before .before .before .before .before .before .before .before .before .before .before .before .before .before .before .before .before .before .before .pre in
+    let p = plan-of (c .before .before .before .before .before .before .before .before .before .before .before .before .before .before .before .before .before .before .before .before .before .args .arcs .now) (c .before .before .before .before .before .before .before .before .before .before .before .before .before .before .before .before .before .before .before .before .before .args .supplies .now) in
+    c .before .before .before .before .before .before .before .before .end-of .ensures p (c .before .before .before .before .before .before .before .before .before .before .before .before .before .before .before .before .before .before .before .before .before .args .k) (rw (c .before .before .before .before .before .before .before .before .before .before .before .before .before .before .before .arc-at .ensures) (own-standing {p = p} {k = c .before .before .before .before .before .before .before .before .before .before .before .before .before .before .before .before .before .before .before .before .before .args .k} (pre .0) (pre .1 .1 .1 .0) (pre .1 .1 .1 .1)))
 
 pub end-for-spec : {M : Type 1} → statement M
 end-for-spec =
@@ -56,6 +50,4 @@ end-for-spec =
     same-length-2
     same-length-3
     same-length-4
-    same-length-5
-    same-length-6
     returns)

@@ -1,5 +1,4 @@
 -- Put at one index, a count is there and nowhere else.
-use mathlib.Core.Path.{refl}
 use borrow.Author.Needs.{needs}
 use borrow.Author.Tests.{eq-eqb, ne-eqb}
 use Rattle.stand.proofs.first.arc_held_at.Statement.{statement}
