@@ -1,0 +1,4 @@
+pub mod Grid
+pub mod Assigned
+pub mod Counted
+pub mod Drawing

@@ -1,0 +1,69 @@
+// The network of a counting plan of v variables and w values, arc by arc and node by node. Internal.
+use plan::Arc;
+ghost use mathlib.Core.Path.{_≡_};
+ghost use mathlib.Core.Bool.{cond};
+ghost use Prim.Native.Nat.{_+_, _*_, _/_, _<_};
+ghost use lib.Dec.{ltb};
+ghost use lib.IntN.{pos, negℤ};
+ghost use lib.ListN.{length};
+ghost use Rattle.numbers.specs.Sums.{only};
+ghost use Rattle.engine.specs.Room.{at};
+ghost use Rattle.plan.specs.Limits.{most-nodes, arc-entries};
+ghost use Rattle.count.specs.Counting.{holds, range-entries};
+ghost use Rattle.count.specs.Drawn.{ArcWritten};
+
+// How often a variable can take value j: once if its domain has it, else never.
+fn times(word: u64, j: u32) -> u32
+    requires { ⌜ j < most-nodes ⌝ }
+    ensures { λ r. ⌜ r ≡ only (holds word j) 1 ⌝ }
+{
+    if (word >> j) % 2 == 1 {
+        return 1;
+    }
+    0
+}
+
+// The arc from variable i to value j.
+pub fn pair_arc(domains: &[u64], i: usize, j: usize) -> Arc
+    requires { ⌜ (i < length (now domains)) × (length (now domains) + j < most-nodes) ⌝ }
+    ensures { λ r. ⌜ r ≡ record { from = i; to = length (now (domains .entry)) + j; low = 0; high = only (holds (at (now (domains .entry)) i) j) 1 } ⌝ }
+{
+    let to = (domains.len() + j) as u32;
+    Arc::new(i as u32, to, 0, times(domains[i], j as u32))
+}
+
+// The arc from value j to the last node, where there are v variables and w values.
+pub fn count_arc(counts: &[u32], v: usize, w: usize, j: usize) -> Arc
+    requires { ⌜ (j < w) × (w ≡ length (now counts) / range-entries) × (v + w < most-nodes) ⌝ }
+    ensures { λ r. ⌜ r ≡ record { from = v + j; to = v + w; low = at (now (counts .entry)) (j * range-entries); high = at (now (counts .entry)) (j * range-entries + 1) } ⌝ }
+{
+    let low = counts[j * 2];
+    let high = counts[j * 2 + 1];
+    Arc::new((v + j) as u32, (v + w) as u32, low, high)
+}
+
+// The supply of node u, where there are v variables and w values.
+pub fn supply_of(v: usize, w: usize, u: usize) -> i32
+    requires { ⌜ v + w < most-nodes ⌝ }
+    ensures { λ r. ⌜ r ≡ cond (ltb u v) (pos 1) (cond (ltb u (v + w)) (pos 0) (negℤ (pos v))) ⌝ }
+{
+    if u < v {
+        return 1;
+    }
+    if u < v + w {
+        return 0;
+    }
+    -(v as i32)
+}
+
+// Writes arc k of a flat list.
+pub fn write_arc(arcs: &mut [u32], k: usize, arc: Arc)
+    requires { ⌜ k * arc-entries + 3 < length (now arcs) ⌝ }
+    ensures { λ r. ⌜ ArcWritten k (arc .from) (arc .to) (arc .low) (arc .high) (now (arcs .entry)) (now (arcs .exit)) ⌝ }
+{
+    let first = k * Arc::ENTRIES;
+    arcs[first] = arc.from;
+    arcs[first + 1] = arc.to;
+    arcs[first + 2] = arc.low;
+    arcs[first + 3] = arc.high;
+}
