@@ -1,16 +1,21 @@
 -- An arc is written by its four numbers, one after another; and with one arc more, the list has one arc more of the plan.
 use Prim.Native.Nat.{ℕ, _+_, _*_, _<_}
-use mathlib.Core.Path.{_≡_, refl, _∙_}
+use mathlib.Core.Path.{_≡_, refl, sym, _∙_}
 use mathlib.Core.List.{List}
 use mathlib.Core.Logic.{by-cases}
 use native.Mathlib.Omega.{arith}
 use native.Mathlib.Decide.{ℕ-discrete}
+use lib.IntN.{ℤ, pos}
 use lib.ListN.{length, set, length-set}
 use lib.Seq.{getD-set-same, getD-set-other}
+use Rattle.numbers.specs.Sums.{only}
 use Rattle.engine.specs.Room.{at}
 use Rattle.plan.specs.Limits.{arc-entries}
 use Rattle.plan.specs.Plan.{Plan}
-use Rattle.count.specs.Drawn.{ArcWritten, ArcsDrawn}
+use Rattle.count.specs.Counting.{Counting}
+use Rattle.count.specs.Network.{network}
+use Rattle.count.specs.Drawn.{ArcWritten, ArcsDrawn, SuppliesDrawn}
+use Rattle.count.proofs.Assigned.{pair-from, pair-to, pair-low, pair-high, end-from, end-to, end-low, end-high}
 
 abbrev pub four : List ℕ → (f a b c d : ℕ) → List ℕ
 four arcs f a b c d = set (set (set (set arcs f a) (f + 1) b) (f + 2) c) (f + 3) d
@@ -84,3 +89,49 @@ drawn-on {p} {k} {from} {to} {low} {high} {arcs₀} {arcs} {arcs′} same w from
     entry place of within before here i l = by-cases (ℕ-discrete i k)
         (λ e. rw e here)
         (λ ne. w .before (place i) (within i (omega arith)) ∙ before i (omega arith))
+
+-- the arcs of the network, where the values are counted by w
+pub record PairArc (c : Counting) (k i j : ℕ) : Type 0 where
+  pub from-is : i ≡ network c .from k
+  pub to-is : c .variables + j ≡ network c .to k
+  pub low-is : 0 ≡ network c .low k
+  pub high-is : only (c .allowed i j) 1 ≡ network c .high k
+
+pub pair-arc-is : (c : Counting) (w : ℕ) → w ≡ c .values → (i j : ℕ) → i < c .variables → j < w → PairArc c (i * w + j) i j
+pair-arc-is c w e i j row column =
+    let below : j < c .values = omega (arith, e, column) in
+    rw e (record {
+      from-is = sym (pair-from c i j row below);
+      to-is = sym (pair-to c i j row below);
+      low-is = sym (pair-low c i j row below);
+      high-is = sym (pair-high c i j row below);
+    })
+
+pub record EndArc (c : Counting) (w k j : ℕ) : Type 0 where
+  pub from-is : c .variables + j ≡ network c .from k
+  pub to-is : c .variables + w ≡ network c .to k
+  pub low-is : c .low j ≡ network c .low k
+  pub high-is : c .high j ≡ network c .high k
+
+pub end-arc-is : (c : Counting) (w : ℕ) → w ≡ c .values → (j : ℕ) → EndArc c w (c .variables * w + j) j
+end-arc-is c w e j = rw e (record {
+  from-is = sym (end-from c j);
+  to-is = sym (end-to c j);
+  low-is = sym (end-low c j);
+  high-is = sym (end-high c j);
+})
+
+-- ---- supplies
+
+pub supplies-none : (p : Plan) {supplies : List ℤ} → SuppliesDrawn p 0 supplies supplies
+supplies-none p = record { same-length = refl; supply-is = λ v l. absurd (omega arith); past = λ v l. refl }
+
+pub supplies-on : {p : Plan} {n : ℕ} {z : ℤ} {supplies₀ supplies : List ℤ} → n < length supplies → z ≡ p .supply n
+    → SuppliesDrawn p n supplies₀ supplies → SuppliesDrawn p (n + 1) supplies₀ (set supplies n z)
+supplies-on {p} {n} {z} {supplies₀} {supplies} fits is d = record {
+  same-length = length-set supplies n z ∙ d .same-length;
+  supply-is = λ v l. by-cases (ℕ-discrete v n)
+      (λ e. rw (e, getD-set-same supplies n z (pos 0) fits) is)
+      (λ ne. getD-set-other supplies n v z (pos 0) ne ∙ d .supply-is v (omega arith));
+  past = λ v l. getD-set-other supplies n v z (pos 0) (λ e. omega arith) ∙ d .past v (omega arith);
+}

@@ -2,15 +2,17 @@
 use plan::Arc;
 ghost use mathlib.Core.Path.{_≡_};
 ghost use mathlib.Core.Bool.{cond};
-ghost use Prim.Native.Nat.{_+_, _*_, _/_, _<_};
+ghost use mathlib.Core.List.{List};
+ghost use Prim.Native.Nat.{ℕ, _+_, _*_, _/_, _≤_, _<_};
 ghost use lib.Dec.{ltb};
 ghost use lib.IntN.{pos, negℤ};
 ghost use lib.ListN.{length};
 ghost use Rattle.numbers.specs.Sums.{only};
 ghost use Rattle.engine.specs.Room.{at};
 ghost use Rattle.plan.specs.Limits.{most-nodes, arc-entries};
-ghost use Rattle.count.specs.Counting.{holds, range-entries};
-ghost use Rattle.count.specs.Drawn.{ArcWritten};
+ghost use Rattle.count.specs.Counting.{Counting, holds, range-entries, counting-of};
+ghost use Rattle.count.specs.Network.{network};
+ghost use Rattle.count.specs.Drawn.{ArcWritten, ArcsDrawn, SuppliesDrawn};
 
 // How often a variable can take value j: once if its domain has it, else never.
 fn times(word: u64, j: u32) -> u32
@@ -24,7 +26,7 @@ fn times(word: u64, j: u32) -> u32
 }
 
 // The arc from variable i to value j.
-pub fn pair_arc(domains: &[u64], i: usize, j: usize) -> Arc
+fn pair_arc(domains: &[u64], i: usize, j: usize) -> Arc
     requires { ⌜ (i < length (now domains)) × (length (now domains) + j < most-nodes) ⌝ }
     ensures { λ r. ⌜ r ≡ record { from = i; to = length (now (domains .entry)) + j; low = 0; high = only (holds (at (now (domains .entry)) i) j) 1 } ⌝ }
 {
@@ -33,7 +35,7 @@ pub fn pair_arc(domains: &[u64], i: usize, j: usize) -> Arc
 }
 
 // The arc from value j to the last node, where there are v variables and w values.
-pub fn count_arc(counts: &[u32], v: usize, w: usize, j: usize) -> Arc
+fn count_arc(counts: &[u32], v: usize, w: usize, j: usize) -> Arc
     requires { ⌜ (j < w) × (w ≡ length (now counts) / range-entries) × (v + w < most-nodes) ⌝ }
     ensures { λ r. ⌜ r ≡ record { from = v + j; to = v + w; low = at (now (counts .entry)) (j * range-entries); high = at (now (counts .entry)) (j * range-entries + 1) } ⌝ }
 {
@@ -43,7 +45,7 @@ pub fn count_arc(counts: &[u32], v: usize, w: usize, j: usize) -> Arc
 }
 
 // The supply of node u, where there are v variables and w values.
-pub fn supply_of(v: usize, w: usize, u: usize) -> i32
+fn supply_of(v: usize, w: usize, u: usize) -> i32
     requires { ⌜ v + w < most-nodes ⌝ }
     ensures { λ r. ⌜ r ≡ cond (ltb u v) (pos 1) (cond (ltb u (v + w)) (pos 0) (negℤ (pos v))) ⌝ }
 {
@@ -57,7 +59,7 @@ pub fn supply_of(v: usize, w: usize, u: usize) -> i32
 }
 
 // Writes arc k of a flat list.
-pub fn write_arc(arcs: &mut [u32], k: usize, arc: Arc)
+fn write_arc(arcs: &mut [u32], k: usize, arc: Arc)
     requires { ⌜ k * arc-entries + 3 < length (now arcs) ⌝ }
     ensures { λ r. ⌜ ArcWritten k (arc .from) (arc .to) (arc .low) (arc .high) (now (arcs .entry)) (now (arcs .exit)) ⌝ }
 {
@@ -66,4 +68,67 @@ pub fn write_arc(arcs: &mut [u32], k: usize, arc: Arc)
     arcs[first + 1] = arc.to;
     arcs[first + 2] = arc.low;
     arcs[first + 3] = arc.high;
+}
+
+// Writes the arcs from variable i to all w values, where those of the variables before it stand.
+fn draw_row(domains: &[u64], counts: &[u32], w: usize, i: usize, arcs: &mut [u32])
+    requires size { ⌜ (w ≡ length (now counts) / range-entries) × (length (now domains) + w < most-nodes) ⌝ }
+    requires row { ⌜ i < length (now domains) ⌝ }
+    requires whole { ⌜ (length (now domains) * w + w) * arc-entries ≤ length (now arcs) ⌝ }
+    ensures { λ r. ⌜ ((before : List ℕ) → ArcsDrawn (network (counting-of (now (domains .entry)) (now (counts .entry)))) (i * w) before (now (arcs .entry)) → ArcsDrawn (network (counting-of (now (domains .entry)) (now (counts .entry)))) (i * w + w) before (now (arcs .exit))) ⌝ }
+{
+    let mut j = 0;
+    while j < w {
+        write_arc(arcs, i * w + j, pair_arc(domains, i, j));
+        j += 1;
+    }
+}
+
+// Writes the arcs from all variables to all w values.
+fn draw_pairs(domains: &[u64], counts: &[u32], w: usize, arcs: &mut [u32])
+    requires size { ⌜ (w ≡ length (now counts) / range-entries) × (length (now domains) + w < most-nodes) ⌝ }
+    requires whole { ⌜ (length (now domains) * w + w) * arc-entries ≤ length (now arcs) ⌝ }
+    ensures { λ r. ⌜ ArcsDrawn (network (counting-of (now (domains .entry)) (now (counts .entry)))) (length (now (domains .entry)) * w) (now (arcs .entry)) (now (arcs .exit)) ⌝ }
+{
+    let mut i = 0;
+    while i < domains.len() {
+        draw_row(domains, counts, w, i, arcs);
+        i += 1;
+    }
+}
+
+// Writes the arcs from the w values to the last node, where those of the variables stand.
+fn draw_counts(domains: &[u64], counts: &[u32], w: usize, arcs: &mut [u32])
+    requires size { ⌜ (w ≡ length (now counts) / range-entries) × (length (now domains) + w < most-nodes) ⌝ }
+    requires whole { ⌜ (length (now domains) * w + w) * arc-entries ≤ length (now arcs) ⌝ }
+    ensures { λ r. ⌜ ((before : List ℕ) → ArcsDrawn (network (counting-of (now (domains .entry)) (now (counts .entry)))) (length (now (domains .entry)) * w) before (now (arcs .entry)) → ArcsDrawn (network (counting-of (now (domains .entry)) (now (counts .entry)))) (length (now (domains .entry)) * w + w) before (now (arcs .exit))) ⌝ }
+{
+    let v = domains.len();
+    let mut j = 0;
+    while j < w {
+        write_arc(arcs, v * w + j, count_arc(counts, v, w, j));
+        j += 1;
+    }
+}
+
+// Writes the arcs of the network.
+pub fn draw_arcs(domains: &[u64], counts: &[u32], w: usize, arcs: &mut [u32])
+    requires size { ⌜ (w ≡ length (now counts) / range-entries) × (length (now domains) + w < most-nodes) ⌝ }
+    requires whole { ⌜ (length (now domains) * w + w) * arc-entries ≤ length (now arcs) ⌝ }
+    ensures { λ r. ⌜ ArcsDrawn (network (counting-of (now (domains .entry)) (now (counts .entry)))) (length (now (domains .entry)) * w + w) (now (arcs .entry)) (now (arcs .exit)) ⌝ }
+{
+    draw_pairs(domains, counts, w, arcs);
+    draw_counts(domains, counts, w, arcs);
+}
+
+// Writes the supplies of the network of v variables and w values.
+pub fn draw_supplies(v: usize, w: usize, supplies: &mut [i32])
+    requires { ⌜ (v + w < most-nodes) × (v + w < length (now supplies)) ⌝ }
+    ensures { λ r. ⌜ ((c : Counting) → c .variables ≡ v → c .values ≡ w → SuppliesDrawn (network c) (v + w + 1) (now (supplies .entry)) (now (supplies .exit))) ⌝ }
+{
+    let mut u = 0;
+    while u <= v + w {
+        supplies[u] = supply_of(v, w, u);
+        u += 1;
+    }
 }
