@@ -18,7 +18,7 @@ use Rattle.plan.specs.Plan.{WellFormed}
 use Rattle.plan.specs.Flow.{HasFlow, Smallest, Largest}
 use Rattle.count.specs.Counting.{Counting, Assignment, Taken, FewestUses, MostUses}
 use Rattle.count.specs.Network.{pairs, last, network}
-use Rattle.count.proofs.Grid.{sum-split, sum-ones}
+use Rattle.count.proofs.Grid.{only-most, sum-split, sum-ones}
 use Rattle.count.proofs.Assigned.{node-cases, variable-supply, value-supply, last-supply}
 use Rattle.count.proofs.Assigned.{arc-cases, pair-from, pair-to, pair-low, pair-high, pair-flow}
 use Rattle.count.proofs.Assigned.{end-from, end-to, end-low, end-high, end-flow}
@@ -62,7 +62,7 @@ network-well-formed c nodes-fit arcs-fit uncrossed high-fits = record {
   uncrossed = arc-cases c (λ k. network c .low k ≤ network c .high k)
       (λ i j l m. omega (arith, pair-low c i j l m)) (λ j m. omega (arith, end-low c j, end-high c j, uncrossed j m));
   high-fits = arc-cases c (λ k. network c .high k ≤ widest-high)
-      (λ i j l m. omega (arith, pair-high c i j l m, at-most-one (c .allowed i j)))
+      (λ i j l m. omega (arith, pair-high c i j l m, only-most (c .allowed i j)))
       (λ j m. omega (arith, end-high c j, high-fits j m));
   supply-fits = node-cases c (λ v. natAbs (network c .supply v) ≤ most-supply)
       (λ i l. omega (arith, ap natAbs (variable-supply c i l)))
@@ -76,10 +76,6 @@ network-well-formed c nodes-fit arcs-fit uncrossed high-fits = record {
       ));
   supplies-even = network-even c;
 }
-  where
-    at-most-one : (t : Bool) → only t 1 ≤ 1
-    at-most-one true = omega arith
-    at-most-one false = omega arith
 
 -- ---- flows and assignments
 

@@ -1,10 +1,10 @@
 -- The numbering of pairs. With w columns the pair of row i and column j has number i * w + j, so a number below v * w is one pair
 -- of a row below v and a column below w: its quotient by w and its remainder. A sum over the numbers is one over the pairs.
-use Prim.Native.Nat.{ℕ, zero, suc, _+_, _*_, _/_, _%_, _<_}
+use Prim.Native.Nat.{ℕ, zero, suc, _+_, _*_, _/_, _%_, _≤_, _<_}
 use mathlib.Core.Path.{_≡_, refl, ap, sym, _∙_}
 use mathlib.Core.Bool.{Bool, true, false}
 use native.Mathlib.Omega.{arith}
-use native.Mathlib.Nat.{add-zero, add-suc, mul-zero, suc-mul, zero-mul, mod-lt, div-add-mod', div-lt-iff-lt-mul}
+use native.Mathlib.Nat.{add-zero, add-suc, mul-zero, suc-mul, zero-mul, mod-lt, mul-le-mul, le-refl, div-add-mod', div-lt-iff-lt-mul}
 use lib.Arith.{digits-lt, digits-div, digits-mod}
 use Rattle.numbers.specs.Sums.{sum, only, sum-in}
 use Rattle.numbers.proofs.Sums.{sum-zero, sum-change}
@@ -38,6 +38,19 @@ sum-in-none n A g none = sum-zero n (λ i. only (A i) (g i)) (λ i l. ap (λ t. 
 -- a sum over a set that has every number
 pub sum-in-all : (n : ℕ) {t : Bool} (g : ℕ → ℕ) → t ≡ true → sum-in n (λ i. t) g ≡ sum n g
 sum-in-all n g e = ap (λ t. sum-in n (λ i. t) g) e
+
+-- what counts once at most
+pub only-most : (t : Bool) → only t 1 ≤ 1
+only-most true = omega arith
+only-most false = omega arith
+
+-- a few times a few are few
+pub few-pairs : {a b : ℕ} → a ≤ 64 → b ≤ 64 → a * b ≤ 4096
+few-pairs l m = mul-le-mul l m
+
+-- a whole row stands among the rows
+pub row-within : {i v : ℕ} (w : ℕ) → i < v → i * w + w ≤ v * w
+row-within {i} w l = omega (arith, mul-le-mul l (le-refl w), suc-mul i w)
 
 pub sum-ones : (n : ℕ) → sum n (λ i. 1) ≡ n
 sum-ones zero = refl

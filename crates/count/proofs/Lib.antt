@@ -2,3 +2,9 @@ pub mod Grid
 pub mod Assigned
 pub mod Counted
 pub mod Drawing
+pub mod Words
+pub mod Refused
+pub mod Asked
+pub mod Answering
+pub mod Unique
+pub mod Worked

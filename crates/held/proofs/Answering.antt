@@ -10,11 +10,11 @@ use lib.ListN.{length}
 use borrow.Author.Tests.{ltb-true, ltb-false, leb-false}
 use Rattle.plan.specs.Plan.{Plan, WellFormed}
 use Rattle.plan.specs.Flow.{Smallest, Largest, OutsideRange}
-use Rattle.plan.specs.Verdict.{verdict, asking-rules}
+use Rattle.plan.specs.Verdict.{verdict, network-rules, asking-rules}
 use Rattle.plan.specs.declared.Verdict.{Verdict}
 use Rattle.plan.specs.declared.Verdict.the-variants.{Accepted}
 use Rattle.plan.proofs.Between.{between-occurs}
-use Rattle.plan.proofs.Refusals.{asking-accepted, accepted-well-formed, accepted-buffers-fit, neither}
+use Rattle.plan.proofs.Refusals.{last-accepted, accepted-well-formed, accepted-buffers-fit, neither}
 use Rattle.stand.specs.State.{Possible}
 use Rattle.held.specs.Answer.{judged, Told, Says}
 use Rattle.held.specs.declared.Answer.{Answer}
@@ -59,7 +59,7 @@ module _ (p : Plan) (arc : ℕ) (arcs : List ℕ) where
 
   pub request-accepted : judged p arc arcs ≡ Accepted → WellFormed p × ((arc < p .arcs) × (p .arcs ≤ length arcs))
   request-accepted e =
-      let (accepted, there) = asking-accepted p (ltb (length arcs) (p .arcs)) (leb (p .arcs) arc) e in (
+      let (accepted, there) = last-accepted (network-rules p (ltb (length arcs) (p .arcs))) 8 (leb (p .arcs) arc) e in (
         accepted-well-formed p (ltb (length arcs) (p .arcs)) accepted,
         (leb-false (p .arcs) arc there, ltb-false (length arcs) (p .arcs) (accepted-buffers-fit p (ltb (length arcs) (p .arcs)) accepted)),
       )

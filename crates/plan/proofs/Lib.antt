@@ -8,6 +8,7 @@ pub mod Unique
 pub mod HeldCounts
 pub mod EitherEnd
 pub mod Demand3
+pub mod Alike
 pub mod Refusals
 pub mod Wrong
 pub mod Narrowing

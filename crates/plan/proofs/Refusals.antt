@@ -13,7 +13,7 @@ use borrow.Author.Tests.{eqb-true, eqb-false, ltb-false, leb-false, ne-eqb, le-l
 use Rattle.numbers.specs.Sums.{sumℤ}
 use Rattle.plan.specs.Limits.{most-nodes, most-arcs, most-supply, widest-high}
 use Rattle.plan.specs.Plan.{Plan, WellFormed}
-use Rattle.plan.specs.Verdict.{Rule, Lowest, lowest, verdict, whole, limit-rules, network-rules, asking-rules}
+use Rattle.plan.specs.Verdict.{Rule, Lowest, lowest, verdict, whole, limit-rules, network-rules}
 use Rattle.plan.specs.declared.Verdict.{Verdict}
 use Rattle.plan.specs.declared.Verdict.the-variants.{Accepted, Refused}
 
@@ -147,7 +147,7 @@ module _ (p : Plan) where
     ),
   )
 
--- ---- 8, after a network's numbers
+-- ---- one number more, after all the others
 
 -- what comes after counts only where nothing was turned down before
 abbrev after : Verdict → Verdict → Verdict
@@ -169,25 +169,25 @@ verdict-after (r ∷ rules) more =
     ap (lowest (r .number) (r .concerns) (r .places)) (verdict-after rules more)
     ∙ lowest-after (r .number) (r .concerns) (r .places) (verdict rules) (verdict more)
 
-module _ (p : Plan) (short missing : Bool) where
-  eight : verdict (asking-rules p short missing) ≡ after (verdict (network-rules p short)) (cond missing (Refused 8 0) Accepted)
-  eight = verdict-after (network-rules p short) (whole 8 missing ∷ [])
+module _ (rules : List Rule) (number : ℕ) (wrong : Bool) where
+  at-last : verdict (rules ++ (whole number wrong ∷ [])) ≡ after (verdict rules) (cond wrong (Refused number 0) Accepted)
+  at-last = verdict-after rules (whole number wrong ∷ [])
 
-  pub asking-refused : {n i : ℕ} → verdict (network-rules p short) ≡ Refused n i → verdict (asking-rules p short missing) ≡ Refused n i
-  asking-refused e = eight ∙ ap (λ v. after v (cond missing (Refused 8 0) Accepted)) e
+  pub last-refused : {n i : ℕ} → verdict rules ≡ Refused n i → verdict (rules ++ (whole number wrong ∷ [])) ≡ Refused n i
+  last-refused e = at-last ∙ ap (λ v. after v (cond wrong (Refused number 0) Accepted)) e
 
-  module _ (accepted : verdict (network-rules p short) ≡ Accepted) where
-    pub asking-missing : missing ≡ true → verdict (asking-rules p short missing) ≡ Refused 8 0
-    asking-missing e = eight ∙ rw (accepted, e)
+  module _ (accepted : verdict rules ≡ Accepted) where
+    pub last-wrong : wrong ≡ true → verdict (rules ++ (whole number wrong ∷ [])) ≡ Refused number 0
+    last-wrong e = at-last ∙ rw (accepted, e)
 
-    pub asking-there : missing ≡ false → verdict (asking-rules p short missing) ≡ Accepted
-    asking-there e = eight ∙ rw (accepted, e)
+    pub last-passes : wrong ≡ false → verdict (rules ++ (whole number wrong ∷ [])) ≡ Accepted
+    last-passes e = at-last ∙ rw (accepted, e)
 
-  -- a request that is accepted has an accepted network, and what it asks about is there
-  pub asking-accepted : verdict (asking-rules p short missing) ≡ Accepted → (verdict (network-rules p short) ≡ Accepted) × (missing ≡ false)
-  asking-accepted e = by (verdict (network-rules p short)) missing (sym eight ∙ e)
+  -- where all is accepted, the others accept, and nothing is wrong at last
+  pub last-accepted : verdict (rules ++ (whole number wrong ∷ [])) ≡ Accepted → (verdict rules ≡ Accepted) × (wrong ≡ false)
+  last-accepted e = by (verdict rules) wrong (sym at-last ∙ e)
     where
-      by : (v : Verdict) (t : Bool) → after v (cond t (Refused 8 0) Accepted) ≡ Accepted → (v ≡ Accepted) × (t ≡ false)
+      by : (v : Verdict) (t : Bool) → after v (cond t (Refused number 0) Accepted) ≡ Accepted → (v ≡ Accepted) × (t ≡ false)
       by Accepted true h = let clash : _≡_ {A = ℕ} 0 1 = cc in absurd (omega arith)
       by Accepted false h = (refl, refl)
       by (Refused n i) t h = let clash : _≡_ {A = ℕ} 0 1 = cc in absurd (omega arith)

@@ -7,10 +7,10 @@ use lib.Dec.{leb, ltb}
 use lib.ListN.{length}
 use borrow.Author.Tests.{leb-false}
 use Rattle.plan.specs.Plan.{Plan, WellFormed}
-use Rattle.plan.specs.Verdict.{verdict, asking-rules, lent-short}
+use Rattle.plan.specs.Verdict.{verdict, network-rules, asking-rules, lent-short}
 use Rattle.plan.specs.declared.Verdict.{Verdict}
 use Rattle.plan.specs.declared.Verdict.the-variants.{Accepted}
-use Rattle.plan.proofs.Refusals.{asking-accepted, neither}
+use Rattle.plan.proofs.Refusals.{last-accepted, neither}
 use Rattle.plan.proofs.Checked.{asked-verdict, accepted-plan, first-fits, second-fits}
 use Rattle.reason.specs.Answer.{missing, is-high, judged, Told, Says}
 use Rattle.reason.specs.declared.Answer.{Answer}
@@ -33,7 +33,7 @@ module _ (p : Plan) (arc end : ℕ) (arcs nodes : List ℕ) where
 
   pub request-accepted : judged p arc end arcs nodes ≡ Accepted → WellFormed p × ((arc < p .arcs) × ((p .arcs ≤ length arcs) × (p .nodes ≤ length nodes)))
   request-accepted e =
-      let (accepted, there) = asking-accepted p (lent-short arcs (p .arcs) nodes (p .nodes)) (missing p arc end) e in (
+      let (accepted, there) = last-accepted (network-rules p (lent-short arcs (p .arcs) nodes (p .nodes))) 8 (missing p arc end) e in (
         accepted-plan p arcs nodes (p .arcs) (p .nodes) accepted,
         (
           leb-false (p .arcs) arc (neither (leb (p .arcs) arc) (ltb 1 end) there .0),

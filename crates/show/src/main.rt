@@ -2,13 +2,17 @@
 // counts; or the shortfall, the stations of the shortage and the limits cited, each as arc and end; or the
 // number and the place by which the plan is turned down. Under a plan that runs, the narrowed ranges and a
 // line for each end of each arc: that it stands, or where it moved, by which stations and limits. Then an
-// arc held at some counts. It uses the four requests and the kit's `io`.
+// arc held at some counts. Of a counting plan: the new domains and count ranges; or the shortfall, and what
+// the flow question says of its network. It uses the six requests and the kit's `io`.
+use count::request::count;
+use count::request::count_network;
 use flow::Answer;
 use flow::question::question;
 use held::request::hold;
 use io::print_decimal;
 use libc::STDOUT_FILENO;
 use narrow::request::narrow;
+use plan::Verdict;
 use reason::request::reason;
 
 fn say(text: &[u8]) {
@@ -86,8 +90,8 @@ fn say_refused(number: u32, index: usize) {
 }
 
 fn show_flow(arcs: &[u32], supplies: &[i32]) {
-    let mut arc_buffer = [0u32; 4];
-    let mut node_buffer = [0u8; 4];
+    let mut arc_buffer = [0u32; 8];
+    let mut node_buffer = [0u8; 6];
     match question(arcs, supplies, &mut arc_buffer, &mut node_buffer) {
         Answer::Runs => {
             say(b" runs");
@@ -202,8 +206,68 @@ fn show_third() {
     show(b"P9", &[0, 1, 0, 1, 0, 1, 0, 1], &[1, -1], 2);
 }
 
+// The values of a domain.
+fn say_domain(word: u64) {
+    let mut j = 0;
+    while j < 64 {
+        if (word >> j) % 2 == 1 {
+            say_number(j);
+        }
+        j += 1;
+    }
+    say(b";");
+}
+
+fn say_domains(words: &[u64]) {
+    say(b" domains");
+    let mut i = 0;
+    while i < words.len() {
+        say_domain(words[i]);
+        i += 1;
+    }
+}
+
+// A counting plan of four values.
+fn show_counting(domains: &[u64], counts: &[u32]) {
+    let mut words = [0u64; 4];
+    let mut lows = [0u32; 4];
+    let mut highs = [0u32; 4];
+    match count(domains, counts, &mut words, &mut lows, &mut highs) {
+        Answer::Runs => {
+            say_domains(&words);
+            say(b" counts from");
+            say_counts(&lows, 4);
+            say(b" to");
+            say_counts(&highs, 4);
+        }
+        Answer::Short(value) => say_none(value),
+        Answer::Refused(number, index) => say_refused(number, index),
+    }
+    say(b"\n");
+}
+
+// A counting plan, and its network asked the flow question; the lists are as long as the network.
+fn show_network(domains: &[u64], counts: &[u32], supplies: &mut [i32], arcs: &mut [u32]) {
+    show_counting(domains, counts);
+    if let Verdict::Refused(number, index) = count_network(domains, counts, supplies, arcs) {
+        say_refused(number, index);
+    }
+    say(b"  network");
+    show_flow(arcs, supplies);
+}
+
+fn show_fourth() {
+    say(b"P10");
+    show_counting(&[10, 10, 3, 13], &[0, 1, 0, 1, 0, 1, 0, 1]);
+    say(b"P11");
+    show_network(&[3, 3, 3], &[0, 1, 0, 1], &mut [0i32; 6], &mut [0u32; 32]);
+    say(b"P12");
+    show_network(&[0], &[0, 1], &mut [0i32; 3], &mut [0u32; 8]);
+}
+
 fn main() {
     show_first();
     show_second();
     show_third();
+    show_fourth();
 }

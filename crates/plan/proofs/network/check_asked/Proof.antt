@@ -2,7 +2,8 @@
 use mathlib.Core.Path.{sym, _∙_}
 use borrow.Author.Needs.{needs}
 use Rattle.plan.specs.Plan.{plan-of}
-use Rattle.plan.proofs.Refusals.{asking-refused, asking-missing, asking-there}
+use Rattle.plan.specs.Verdict.{network-rules}
+use Rattle.plan.proofs.Refusals.{last-refused, last-wrong, last-passes}
 use Rattle.plan.proofs.network.check_asked.Statement.{statement}
 use Rattle.plan.proofs.network.check_asked.Tie as tie
 
@@ -15,7 +16,7 @@ enum-known-number c = search needs
 returns : tie.Need-returns
 returns c =
     let a = c .before .before .before .before .before .args in
-    sym (asking-refused (plan-of (a .arcs .now) (a .supplies .now)) (a .short) (a .missing) (sym (c .before .before .before .check .ensures) ∙ c .before .number .given .1))
+    sym (last-refused (network-rules (plan-of (a .arcs .now) (a .supplies .now)) (a .short)) 8 (a .missing) (sym (c .before .before .before .check .ensures) ∙ c .before .number .given .1))
 
 enum-told : tie.Need-enum-told
 enum-told c = search needs
@@ -23,12 +24,12 @@ enum-told c = search needs
 returns-2 : tie.Need-returns-2
 returns-2 c =
     let a = c .before .before .before .before .before .args in
-    sym (asking-missing (plan-of (a .arcs .now) (a .supplies .now)) (a .short) (a .missing) (sym (c .before .before .before .check .ensures) ∙ c .before .enum-told .given .1) (c .if1 .taken))
+    sym (last-wrong (network-rules (plan-of (a .arcs .now) (a .supplies .now)) (a .short)) 8 (a .missing) (sym (c .before .before .before .check .ensures) ∙ c .before .enum-told .given .1) (c .if1 .taken))
 
 returns-3 : tie.Need-returns-3
 returns-3 c =
     let a = c .before .before .before .before .before .args in
-    sym (asking-there (plan-of (a .arcs .now) (a .supplies .now)) (a .short) (a .missing) (sym (c .before .before .before .check .ensures) ∙ c .before .enum-told .given .1) (c .if1 .left))
+    sym (last-passes (network-rules (plan-of (a .arcs .now) (a .supplies .now)) (a .short)) 8 (a .missing) (sym (c .before .before .before .check .ensures) ∙ c .before .enum-told .given .1) (c .if1 .left))
 
 pub check-asked-spec : {M : Type 1} → statement M
 check-asked-spec =

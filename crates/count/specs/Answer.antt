@@ -1,0 +1,102 @@
+-- What a counting plan is turned down for, what its two requests answer, and what they leave in the lent buffers.
+use Prim.Native.Nat.{ℕ, _+_, _*_, _/_, _^_, _≤_, _<_}
+use mathlib.Core.Path.{_≡_}
+use mathlib.Core.Bool.{Bool, true, _||_}
+use mathlib.Core.List.{List, [], _∷_, _++_}
+use mathlib.Core.Logic.{_↔_}
+use lib.Dec.{leb, ltb}
+use lib.IntN.{ℤ}
+use lib.ListN.{length}
+use Rattle.engine.specs.Room.{at}
+use Rattle.plan.specs.Limits.{most-nodes, most-arcs, widest-high, arc-entries}
+use Rattle.plan.specs.Plan.{Set}
+use Rattle.plan.specs.Shortage.{ShortBy}
+use Rattle.plan.specs.Verdict.{Rule, verdict, whole}
+use Rattle.plan.specs.declared.Verdict.{Verdict}
+use Rattle.plan.specs.declared.Verdict.the-variants.{Accepted, Refused as TurnedDown}
+use Rattle.flow.specs.declared.Answer.{Answer}
+use Rattle.flow.specs.declared.Answer.the-variants.{Runs, Short, Refused}
+use Rattle.count.specs.Counting.{Counting, counting-of, holds, Assignment, Taken, FewestUses, MostUses}
+use Rattle.count.specs.Network.{network}
+use Rattle.count.specs.Drawn.{ArcsDrawn, SuppliesDrawn}
+
+-- a word names a value at or above the value count
+abbrev pub names-beyond : (domains : List ℕ) → (values : ℕ) → ℕ → Bool
+names-beyond domains values i = leb (2 ^ values) (at domains i)
+
+-- a count low above its high, or the high above 65,535
+abbrev pub count-wrong : Counting → ℕ → Bool
+count-wrong c j = ltb (c .high j) (c .low j) || ltb widest-high (c .high j)
+
+-- 15, 16, 17 and 18: what the counting plan itself is turned down for
+abbrev pub counting-rules : (domains : List ℕ) → Counting → List Rule
+counting-rules domains c =
+    whole 15 (ltb most-nodes (c .variables + c .values + 1))
+    ∷ record { number = 16; places = c .variables; concerns = names-beyond domains (c .values) }
+    ∷ whole 17 (ltb most-arcs (c .values * (c .variables + 1)))
+    ∷ record { number = 18; places = c .values; concerns = count-wrong c }
+    ∷ []
+
+-- 3 after them, where a lent buffer is too short for what the request may write
+abbrev pub counting-verdict : (domains : List ℕ) → Counting → (short : Bool) → Verdict
+counting-verdict domains c short = verdict (counting-rules domains c ++ (whole 3 short ∷ []))
+
+-- ---- the network, handed out
+
+-- a supply for each node, and four numbers for each arc
+abbrev pub network-short : Counting → (supplies : List ℤ) → (arcs : List ℕ) → Bool
+network-short c supplies arcs = ltb (length supplies) (network c .nodes) || ltb (length arcs / arc-entries) (network c .arcs)
+
+abbrev pub network-judged : (domains counts : List ℕ) → (supplies : List ℤ) → (arcs : List ℕ) → Verdict
+network-judged domains counts supplies arcs =
+    counting-verdict domains (counting-of domains counts) (network-short (counting-of domains counts) supplies arcs)
+
+-- the network is written where the input is accepted, and nothing where it is turned down
+abbrev pub Handed : Counting → (supplies : List ℤ) → (arcs : List ℕ) → (supplies′ : List ℤ) → (arcs′ : List ℕ) → Verdict → Type 0
+Handed c supplies arcs supplies′ arcs′ Accepted =
+    SuppliesDrawn (network c) (network c .nodes) supplies supplies′ × ArcsDrawn (network c) (network c .arcs) arcs arcs′
+Handed c supplies arcs supplies′ arcs′ (TurnedDown n place) = (supplies′ ≡ supplies) × (arcs′ ≡ arcs)
+
+pub record NetworkAnswers (domains counts : List ℕ) (supplies : List ℤ) (arcs : List ℕ) (supplies′ : List ℤ) (arcs′ : List ℕ) (answer : Verdict) : Type 0 where
+  pub answer-is : network-judged domains counts supplies arcs ≡ answer
+  pub handed : Handed (counting-of domains counts) supplies arcs supplies′ arcs′ answer
+
+-- ---- the counting request
+
+-- three lent buffers: a word for each variable, and a low and a high for each value
+pub record Buffers : Type 0 where
+  pub domains : List ℕ
+  pub lows : List ℕ
+  pub highs : List ℕ
+
+abbrev pub buffers-short : Counting → Buffers → Bool
+buffers-short c b =
+    ltb (length (b .domains)) (c .variables) || (ltb (length (b .lows)) (c .values) || ltb (length (b .highs)) (c .values))
+
+abbrev pub judged : (domains counts : List ℕ) → Buffers → Verdict
+judged domains counts b = counting-verdict domains (counting-of domains counts) (buffers-short (counting-of domains counts) b)
+
+-- there is an assignment; a value stays in a variable's domain exactly if some assignment takes it; and each count range is
+-- the least and the greatest count over all assignments
+pub record Counted (c : Counting) (b b′ : Buffers) : Type 0 where
+  pub values : ℕ → ℕ
+  pub assignment : Assignment c values
+  pub domain : (i : ℕ) → i < c .variables → (j : ℕ) → (holds (at (b′ .domains) i) j ≡ true) ↔ Taken c i j
+  pub fewest : (j : ℕ) → j < c .values → FewestUses c j (at (b′ .lows) j)
+  pub most : (j : ℕ) → j < c .values → MostUses c j (at (b′ .highs) j)
+  pub domains-past : (i : ℕ) → c .variables ≤ i → at (b′ .domains) i ≡ at (b .domains) i
+  pub lows-past : (j : ℕ) → c .values ≤ j → at (b′ .lows) j ≡ at (b .lows) j
+  pub highs-past : (j : ℕ) → c .values ≤ j → at (b′ .highs) j ≡ at (b .highs) j
+
+-- where there is no assignment, by how much the network is short; then, and where the input is turned down, nothing is written
+abbrev pub Says : (domains counts : List ℕ) → (b b′ : Buffers) → Answer → Type 0
+Says domains counts b b′ Runs = (judged domains counts b ≡ Accepted) × Counted (counting-of domains counts) b b′
+Says domains counts b b′ (Short value) =
+    (judged domains counts b ≡ Accepted) × ((S : Set) × ShortBy (network (counting-of domains counts)) value S) × (b′ ≡ b)
+Says domains counts b b′ (Refused n place) = (judged domains counts b ≡ TurnedDown n place) × (b′ ≡ b)
+
+pub record CountAnswers (domains counts : List ℕ) (b b′ : Buffers) (answer : Answer) : Type 0 where
+  pub says : Says domains counts b b′ answer
+  pub domains-length : length (b′ .domains) ≡ length (b .domains)
+  pub lows-length : length (b′ .lows) ≡ length (b .lows)
+  pub highs-length : length (b′ .highs) ≡ length (b .highs)

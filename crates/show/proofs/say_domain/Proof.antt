@@ -1,0 +1,54 @@
+-- The value stays within the bits of a word.
+use Prim.Native.Nat.{_-_, _≤_}
+use borrow.Author.Needs.{needs}
+use Rattle.show.proofs.say_domain.Statement.{statement}
+use Rattle.show.proofs.say_domain.Tie as tie
+
+abbrev Inv-loop : tie.InvT-loop
+Inv-loop word j₀ t3 j = j ≤ 64
+
+abbrev μ-loop : tie.MeasureT-loop
+μ-loop word j₀ t3 j = 64 - j
+
+loop-holds : tie.Need-loop-holds Inv-loop μ-loop
+loop-holds c = search needs
+
+shr-if1 : tie.Need-shr-if1 Inv-loop μ-loop
+shr-if1 c = search needs
+
+say-number-requires : tie.Need-say-number-requires Inv-loop μ-loop
+say-number-requires c κs = search needs
+
+add-j : tie.Need-add-j Inv-loop μ-loop
+add-j c = search needs
+
+loop-less : tie.Need-loop-less Inv-loop μ-loop
+loop-less c = search needs
+
+loop-again : tie.Need-loop-again Inv-loop μ-loop
+loop-again c = search needs
+
+slice-aggregate-say : tie.Need-slice-aggregate-say Inv-loop μ-loop
+slice-aggregate-say c = search needs
+
+say-requires : tie.Need-say-requires Inv-loop μ-loop
+say-requires c κs = search needs
+
+returns : tie.Need-returns Inv-loop μ-loop
+returns c = search needs
+
+pub say-domain-spec : {M : Type 1} → statement M
+say-domain-spec =
+    tie.close
+    (tie.spec
+    Inv-loop
+    μ-loop
+    loop-holds
+    shr-if1
+    say-number-requires
+    add-j
+    loop-less
+    loop-again
+    slice-aggregate-say
+    say-requires
+    returns)
