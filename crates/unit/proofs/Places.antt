@@ -1,60 +1,112 @@
--- The place of a refusal is small: an arc or a node of a plan whose counts were taken, or 0.
+-- The place of a refusal is small: the rules look at few places each, or one before them turns the input down.
 use Prim.Native.Nat.{ℕ, zero, suc, _≤_, _<_}
 use mathlib.Core.Path.{_≡_, refl}
-use mathlib.Core.Bool.{Bool, true, false, cond, _||_, true≢false}
-use mathlib.Core.List.{List}
+use mathlib.Core.Bool.{Bool, true, false, cond}
+use mathlib.Core.List.{List, [], _∷_, _++_}
+use mathlib.Core.Logic.{⊎-elim}
 use native.Mathlib.Omega.{arith}
-use lib.Dec.{ltb, eqb}
+use native.Mathlib.Nat.{eq-or-lt-of-le, le-of-suc-le-suc}
+use lib.Dec.{leb, ltb, eqb}
+use lib.ListN.{length}
 use borrow.Author.Tests.{ltb-false}
 use Rattle.plan.specs.Limits.{most-nodes, most-arcs}
 use Rattle.plan.specs.Plan.{Plan}
-use Rattle.plan.specs.Verdict.{lowest, verdict, sum-wrong, limit-rules, network-rules, lent-short}
+use Rattle.plan.specs.Verdict.{Rule, lowest, verdict, whole, network-rules, asking-rules, lent-short}
 use Rattle.plan.specs.declared.Verdict.{Verdict}
 use Rattle.plan.specs.declared.Verdict.the-variants.{Accepted, Refused}
+use Rattle.plan.proofs.Refusals.{None, neither}
+use Rattle.flow.specs.Answer as flow
 use Rattle.flow.specs.Answer.{FlowAnswers}
-use Rattle.flow.specs.declared.Answer.the-variants.{Refused as TurnedDown}
+use Rattle.flow.specs.declared.Answer as flow-declared
+use Rattle.flow.specs.declared.Answer.the-variants as flow-variants
+use Rattle.narrow.specs.Answer.{NarrowAnswers}
+use Rattle.reason.specs.Answer as reason
+use Rattle.reason.specs.Answer.{ReasonAnswers}
+use Rattle.reason.specs.declared.Answer as reason-declared
+use Rattle.reason.specs.declared.Answer.the-variants as reason-variants
+use Rattle.held.specs.Answer as held
+use Rattle.held.specs.Answer.{HeldAnswers}
+use Rattle.held.specs.declared.Answer as held-declared
+use Rattle.held.specs.declared.Answer.the-variants as held-variants
 
--- a verdict's place, if it has one, is an arc or a node of a plan within the limits
+-- a verdict's place, if it has one, is below the most arcs that a plan can have
 abbrev pub Small : Verdict → Type 0
 Small Accepted = Unit {0}
 Small (Refused n i) = i < most-arcs
 
--- of two verdicts that are small, the one that a test picks is
-picked : (t : Bool) (here after : Verdict) → (t ≡ true → Small here) → (t ≡ false → Small after) → Small (cond t here after)
-picked true here after h a = h refl
-picked false here after h a = a refl
+-- each rule looks at few places, as far as none of the rules before it turns the input down
+abbrev pub Few : List Rule → Type 0
+Few [] = Unit {0}
+Few (r ∷ rules) = (r .places ≤ most-arcs) × (None (r .concerns) (r .places) → Few rules)
 
--- a rule over few places
-lowest-small : (number : ℕ) (concerns : ℕ → Bool) (n : ℕ) (after : Verdict) → n ≤ most-arcs → Small after
-    → Small (lowest number concerns n after)
-lowest-small number concerns zero after few small = small
-lowest-small number concerns (suc n) after few small =
-    lowest-small number concerns n (cond (concerns n) (Refused number n) after) (omega arith)
-    (picked (concerns n) (Refused number n) after (λ _. omega arith) (λ _. small))
+-- one rule: it gives one of its places, or what comes after where it concerns none
+module _ (number : ℕ) (concerns : ℕ → Bool) where
+  pub lowest-small : (n : ℕ) (after : Verdict) → n ≤ most-arcs → (None concerns n → Small after) → Small (lowest number concerns n after)
+  lowest-small zero after few small = small (λ i l. absurd (omega arith))
+  lowest-small (suc n) after few small =
+      lowest-small n (cond (concerns n) (Refused number n) after) (omega arith) (λ none. picked (concerns n) (λ e. small (one-more none e)))
+    where
+      one-more : None concerns n → concerns n ≡ false → None concerns (suc n)
+      one-more none e i l = ⊎-elim (λ e′. rw e′ e) (none i) (eq-or-lt-of-le (le-of-suc-le-suc l))
 
-limits-small : (p : Plan) → p .nodes ≤ most-nodes → p .arcs ≤ most-arcs → Small (verdict (limit-rules p))
-limits-small p few-nodes few-arcs =
-    lowest-small 4 _ (p .arcs) _ few-arcs
-    (lowest-small 5 _ (p .arcs) _ few-arcs
-    (lowest-small 6 _ (p .nodes) _ (omega arith)
-    (lowest-small 7 (λ _. sum-wrong p) 1 Accepted (omega arith) tt)))
+      picked : (t : Bool) → (t ≡ false → Small after) → Small (cond t (Refused number n) after)
+      picked true s = omega arith
+      picked false s = s refl
 
-second-false : (a b : Bool) → (a || b) ≡ false → b ≡ false
-second-false true b e = absurd (true≢false e)
-second-false false b e = e
+pub verdict-small : (rules : List Rule) → Few rules → Small (verdict rules)
+verdict-small [] few = tt
+verdict-small (r ∷ rules) few =
+    lowest-small (r .number) (r .concerns) (r .places) (verdict rules) (few .0) (λ none. verdict-small rules (few .1 none))
+
+-- the rules of a network look at its arcs and nodes only where 1 and 2 found few of them
+pub network-few : (p : Plan) (short : Bool) (more : List Rule) → Few more → Few (network-rules p short ++ more)
+network-few p short more few = (
+  omega arith,
+  λ nodes. (
+    omega arith,
+    λ arcs.
+        let few-nodes = ltb-false most-nodes (p .nodes) (neither (eqb (p .nodes) 0) (ltb most-nodes (p .nodes)) (nodes 0 (omega arith)) .1) in
+        let few-arcs = ltb-false most-arcs (p .arcs) (arcs 0 (omega arith)) in
+        (omega arith, λ _. (few-arcs, λ _. (few-arcs, λ _. (omega arith, λ _. (omega arith, λ _. few))))),
+  ),
+)
 
 pub network-small : (p : Plan) (short : Bool) → Small (verdict (network-rules p short))
-network-small p short =
-    picked (eqb (p .nodes) 0 || ltb most-nodes (p .nodes)) (Refused 1 0) _ (λ _. omega arith)
-    (λ counted.
-    picked (ltb most-arcs (p .arcs)) (Refused 2 0) _ (λ _. omega arith)
-    (λ listed.
-    lowest-small 3 (λ _. short) 1 _ (omega arith)
-    (limits-small p
-    (ltb-false most-nodes (p .nodes) (second-false (eqb (p .nodes) 0) (ltb most-nodes (p .nodes)) counted))
-    (ltb-false most-arcs (p .arcs) listed))))
+network-small p short = verdict-small (network-rules p short) (network-few p short [] tt)
 
--- the place of a refusal by the flow question
-pub refused-small : {p : Plan} {arcs nodes arcs′ nodes′ : List ℕ} {n i : ℕ}
-    → FlowAnswers p arcs nodes arcs′ nodes′ (TurnedDown n i) → i < most-arcs
-refused-small {p} {arcs} {nodes} answered = rw (answered .says .0) at (network-small p (lent-short arcs (p .arcs) nodes (p .nodes)))
+pub asking-small : (p : Plan) (short missing : Bool) → Small (verdict (asking-rules p short missing))
+asking-small p short missing =
+    verdict-small (asking-rules p short missing) (network-few p short (whole 8 missing ∷ []) (omega arith, λ _. tt))
+
+-- ---- so the place of each request's answer is small
+
+small-place : {v : Verdict} {n i : ℕ} → Small v → v ≡ Refused n i → i < most-arcs
+small-place small e = rw e at small
+
+pub flow-place : {p : Plan} {arcs nodes a n : List ℕ} (r : flow-declared.Answer) → FlowAnswers p arcs nodes a n r → flow.place r < most-arcs
+flow-place flow-variants.Runs x = omega arith
+flow-place (flow-variants.Short v) x = omega arith
+flow-place {p} {arcs} {nodes} (flow-variants.Refused m i) x =
+    small-place (network-small p (lent-short arcs (p .arcs) nodes (p .nodes))) (x .says .0)
+
+pub narrow-place : {p : Plan} {lows highs l h : List ℕ} (r : flow-declared.Answer) → NarrowAnswers p lows highs l h r → flow.place r < most-arcs
+narrow-place flow-variants.Runs x = omega arith
+narrow-place (flow-variants.Short v) x = omega arith
+narrow-place {p} {lows} {highs} (flow-variants.Refused m i) x =
+    small-place (network-small p (lent-short lows (p .arcs) highs (p .arcs))) (x .says .0)
+
+pub reason-place : {p : Plan} {arc end : ℕ} {arcs nodes a n : List ℕ} (r : reason-declared.Answer)
+    → ReasonAnswers p arc end arcs nodes a n r → reason.place r < most-arcs
+reason-place reason-variants.Stands x = omega arith
+reason-place (reason-variants.Moved v) x = omega arith
+reason-place (reason-variants.Short v) x = omega arith
+reason-place {p} {arc} {end} {arcs} {nodes} (reason-variants.Refused m i) x =
+    small-place (asking-small p (lent-short arcs (p .arcs) nodes (p .nodes)) (reason.missing p arc end)) (x .says .0)
+
+pub held-place : {p : Plan} {arc count : ℕ} {arcs a : List ℕ} (r : held-declared.Answer)
+    → HeldAnswers p arc count arcs a r → held.place r < most-arcs
+held-place held-variants.Runs x = omega arith
+held-place (held-variants.Short v) x = omega arith
+held-place held-variants.Outside x = omega arith
+held-place {p} {arc} {arcs = arcs} (held-variants.Refused m i) x =
+    small-place (asking-small p (ltb (length arcs) (p .arcs)) (leb (p .arcs) arc)) (x .says .0)
