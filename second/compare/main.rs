@@ -1,0 +1,69 @@
+//! Compares the unit with the second program, request by request, through the unit's C boundary.
+//!
+//!     compare [--seed N] [--rounds N] [--self-test]
+
+mod ask;
+mod boundary;
+mod draw;
+mod lent;
+mod pass;
+mod random;
+mod requests;
+mod run;
+mod self_test;
+
+use run::Run;
+
+const SEED: u64 = 1;
+const ROUNDS: usize = 4_000;
+
+struct Options {
+    seed: u64,
+    rounds: usize,
+    self_test: bool,
+}
+
+fn main() {
+    let Some(options) = options() else {
+        eprintln!("compare [--seed N] [--rounds N] [--self-test]");
+        std::process::exit(2);
+    };
+    if options.self_test {
+        self_test::every_fault_is_seen(options.seed);
+        return;
+    }
+    let mut run = Run::of_seed(options.seed);
+    compare(&mut run, options.rounds);
+    print!("{}", run.numbers());
+    if !run.met_every_number() {
+        println!("not every number came up: {} rounds are too few", options.rounds);
+        std::process::exit(1);
+    }
+    println!("compared: {}; {} requests, 0 differences", run.tally(), run.total());
+}
+
+/// Ends the program at the first difference.
+fn compare(run: &mut Run, rounds: usize) {
+    pass::worked::all(run);
+    for number in 0..rounds {
+        pass::networks::round(run, number);
+        #[cfg(have_count)]
+        pass::countings::round(run, number);
+        #[cfg(have_file)]
+        pass::files::round(run);
+    }
+}
+
+fn options() -> Option<Options> {
+    let mut options = Options { seed: SEED, rounds: ROUNDS, self_test: false };
+    let mut words = std::env::args().skip(1);
+    while let Some(word) = words.next() {
+        match word.as_str() {
+            "--seed" => options.seed = words.next()?.parse().ok()?,
+            "--rounds" => options.rounds = words.next()?.parse().ok()?,
+            "--self-test" => options.self_test = true,
+            _ => return None,
+        }
+    }
+    Some(options)
+}
