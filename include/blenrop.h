@@ -51,11 +51,6 @@ enum {
     BLENROP_OUTSIDE_RANGE = 10 /* there are flows, but none has the count asked for on the arc */
 };
 
-/* An arc: four entries of a flat list of arcs, in the list's order. */
-struct blenrop_arc {
-    uint32_t from, to, low, high;
-};
-
 /* An answer. Where the lines above and below say nothing of index or value, it is 0. */
 struct blenrop_answer {
     uint32_t number;
@@ -105,6 +100,25 @@ struct blenrop_answer blenrop_held(const uint32_t *arcs, size_t arcs_length,
                                    const int32_t *supplies, size_t supplies_length,
                                    uint32_t arc, uint32_t count,
                                    uint32_t *arc_buffer, size_t arc_buffer_length);
+
+/* ---- Requests over a list of arc structs. m = arcs_length; all else is as for the flat list of the same numbers */
+
+/* An arc: four entries of a flat list, in the list's order. */
+struct blenrop_arc {
+    uint32_t from, to, low, high;
+};
+
+/* blenrop_flow over arc structs. */
+struct blenrop_answer blenrop_flow_arcs(const struct blenrop_arc *arcs, size_t arcs_length,
+                                        const int32_t *supplies, size_t supplies_length,
+                                        uint32_t *arc_buffer, size_t arc_buffer_length,
+                                        uint8_t *node_buffer, size_t node_buffer_length);
+
+/* blenrop_narrow over arc structs. */
+struct blenrop_answer blenrop_narrow_arcs(const struct blenrop_arc *arcs, size_t arcs_length,
+                                          const int32_t *supplies, size_t supplies_length,
+                                          uint32_t *lows, size_t lows_length,
+                                          uint32_t *highs, size_t highs_length);
 
 #ifdef __cplusplus
 }

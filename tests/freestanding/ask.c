@@ -5,7 +5,8 @@
 
 #define LENGTH(list) (sizeof(list) / sizeof *(list))
 
-/* The struct is laid out as the archive has it: a negative length here does not compile. */
+/* The structs are laid out as the archive has them: a negative length here does not compile. */
+typedef char arc_is_16_bytes[sizeof(struct blenrop_arc) == 16 ? 1 : -1];
 typedef char answer_is_16_bytes[sizeof(struct blenrop_answer) == 16 ? 1 : -1];
 typedef char index_is_at_4[offsetof(struct blenrop_answer, index) == 4 ? 1 : -1];
 typedef char value_is_at_8[offsetof(struct blenrop_answer, value) == 8 ? 1 : -1];
@@ -42,9 +43,11 @@ static int marks(const uint8_t *a, uint8_t x, uint8_t y, uint8_t z) { return a[0
 /* P1: supplies 5, 0, -5; arcs 0-1 0..4, 0-2 0..3, 1-2 0..9. P6: supplies 1, -1, no arcs. */
 static const int32_t p1_supplies[] = {5, 0, -5};
 static const uint32_t p1_arcs[] = {0, 1, 0, 4, 0, 2, 0, 3, 1, 2, 0, 9};
+static const struct blenrop_arc p1_structs[] = {{0, 1, 0, 4}, {0, 2, 0, 3}, {1, 2, 0, 9}};
 static const int32_t p6_supplies[] = {1, -1};
 
 #define P1 p1_arcs, LENGTH(p1_arcs), p1_supplies, LENGTH(p1_supplies)
+#define P1_STRUCTS p1_structs, LENGTH(p1_structs), p1_supplies, LENGTH(p1_supplies)
 
 static int asked(void) {
     uint32_t a[3] = {7, 7, 7}, b[3] = {7, 7, 7};
@@ -53,11 +56,14 @@ static int asked(void) {
     if (!is(blenrop_narrow(P1, a, 3, b, 3), 0, 0, 0) || !counts(a, 2, 1, 2) || !counts(b, 4, 3, 4)) return 2;
     if (!is(blenrop_reason(P1, 2, 0, a, 3, v, 3), 0, 1, 2) || !counts(a, 0, 2, 0) || !marks(v, 1, 1, 0)) return 3;
     if (!is(blenrop_held(P1, 1, 2, a, 3), 0, 0, 0) || !counts(a, 3, 2, 3)) return 4;
-    if (!is(blenrop_held(P1, 1, 4, a, 3), BLENROP_OUTSIDE_RANGE, 0, 0) || !counts(a, 3, 2, 3)) return 5;
-    if (!is(blenrop_flow(P1, a, 2, v, 3), BLENROP_BUFFER, 0, 0)) return 6;
+    if (!is(blenrop_held(P1, 1, 4, a, 3), 10, 0, 0) || !counts(a, 3, 2, 3)) return 5;
+    if (!is(blenrop_flow(P1, a, 2, v, 3), 3, 0, 0)) return 6;
+    if (!is(blenrop_flow_arcs(P1_STRUCTS, a, 3, v, 3), 0, 0, 0) || !counts(a, 2, 3, 2)) return 7;
+    if (!is(blenrop_narrow_arcs(P1_STRUCTS, a, 3, b, 3), 0, 0, 0) || !counts(a, 2, 1, 2) || !counts(b, 4, 3, 4)) return 8;
     /* slices of length 0 by null pointers */
-    if (!is(blenrop_flow(NULL, 0, p6_supplies, 2, NULL, 0, v, 3), BLENROP_NO_FLOW, 0, 1) || !marks(v, 1, 0, 0)) return 7;
-    if (!is(blenrop_flow(NULL, 0, NULL, 0, NULL, 0, NULL, 0), BLENROP_NODES, 0, 0)) return 8;
+    if (!is(blenrop_flow(NULL, 0, p6_supplies, 2, NULL, 0, v, 3), 9, 0, 1) || !marks(v, 1, 0, 0)) return 9;
+    if (!is(blenrop_flow(NULL, 0, NULL, 0, NULL, 0, NULL, 0), 1, 0, 0)) return 10;
+    if (!is(blenrop_flow_arcs(NULL, 0, p6_supplies, 2, NULL, 0, v, 3), 9, 0, 1) || !marks(v, 1, 0, 0)) return 11;
     return 0;
 }
 

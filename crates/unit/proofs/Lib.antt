@@ -1,2 +1,4 @@
 pub mod Places
 pub mod Unique
+pub mod Apart
+pub mod Entry
