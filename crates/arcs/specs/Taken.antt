@@ -1,9 +1,10 @@
 -- A list of arc structs as the flat list of document 01, and as it stands in a room of fixed length.
 use Prim.Native.Nat.{ℕ, zero, suc, _+_, _*_}
+use mathlib.Core.Path.{_≡_}
 use mathlib.Core.Bool.{cond}
 use mathlib.Core.List.{List, [], _∷_}
 use lib.Dec.{ltb}
-use lib.ListN.{getD, set, replicate}
+use lib.ListN.{length, getD, set, replicate}
 use Rattle.plan.specs.Limits.{most-arcs, arc-entries}
 use Rattle.arcs.specs.declared.Arc.{Arc}
 
@@ -33,3 +34,7 @@ room = (most-arcs + 1) * arc-entries
 unfoldable pub taken-apart : List Arc → ℕ → List ℕ
 taken-apart arcs zero = replicate room 0
 taken-apart arcs (suc n) = placed (taken-apart arcs n) n (getD arcs n no-arc)
+
+-- what holds of the flat list of any arcs that these numbers were taken apart from, where so many arcs were lent
+pub record OfArcs (flat : List ℕ) (count : ℕ) (P : List ℕ → Type 0) : Type 0 where
+  pub of-arcs : (arcs : List Arc) → length arcs ≡ count → flat ≡ taken-apart arcs (cut-at count) → P (flattened arcs)

@@ -20,13 +20,12 @@ use Rattle.flow.specs.Answer.{FlowAnswers}
 use Rattle.flow.specs.declared.Answer as flow
 use Rattle.flow.specs.declared.Answer.the-variants.{Runs, Short, Refused}
 use Rattle.narrow.specs.Answer.{NarrowAnswers}
-use Rattle.arcs.specs.Taken.{flattened, cut-at, taken-apart}
+use Rattle.arcs.specs.Taken.{flattened, cut-at, taken-apart, OfArcs}
 use Rattle.arcs.specs.declared.Arc.{Arc}
 use Rattle.arcs.proofs.Taking.{taken-length}
 use Rattle.arcs.proofs.Flat.{flattened-length, taken-flat}
 use Rattle.unit.specs.declared.answer.Answer.{Answer}
 use Rattle.unit.specs.Crossing.{Reading, Crosses}
-use Rattle.unit.specs.Apart.{OfArcs}
 
 -- ---- too many arcs
 

@@ -1,4 +1,3 @@
 pub mod Places
 pub mod Unique
 pub mod Apart
-pub mod Entry

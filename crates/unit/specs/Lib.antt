@@ -1,3 +1,2 @@
--- How an answer crosses to C, and what is said of arcs that were taken apart.
+-- How an answer crosses to C.
 pub mod Crossing
-pub mod Apart

@@ -9,9 +9,8 @@ use arcs::take_apart;
 ghost use Rattle.plan.specs.Plan.{plan-of};
 ghost use Rattle.flow.specs.Answer.{FlowAnswers};
 ghost use Rattle.narrow.specs.Answer.{NarrowAnswers};
-ghost use Rattle.arcs.specs.Taken.{flattened};
+ghost use Rattle.arcs.specs.Taken.{flattened, OfArcs};
 ghost use Rattle.unit.specs.Crossing.{Crosses, flow-reading};
-ghost use Rattle.unit.specs.Apart.{OfArcs};
 
 // The flow question about the first numbers of a list that was taken apart from `count` arcs.
 fn flow_over(
