@@ -1,291 +1,180 @@
-/* Asks the unit and the textbook program the flow question of the same plans. Any difference between
-   the answers is an error; then both are timed, and the unit's stack is measured. */
+/* Asks one or two archives and a yardstick the same requests about the same plans, compares all answers, and prints the
+   median time of a call and the stack of each entry.
+
+       bench ROUNDS UNIT.so [BEFORE.so] */
 #define _XOPEN_SOURCE 700
+#include <dlfcn.h>
 #include <stdio.h>
 #include <stdlib.h>
 #include <string.h>
 #include <time.h>
 #include <ucontext.h>
 
-#include "plan.h"
+#include "plans.h"
 
-enum { PLANS = 24, MOST_ROUNDS = 100, TINY_PLANS = 20000, STACK_BYTES = 1 << 20, PAINT = 0xA5 };
+enum { MOST_ROUNDS = 100, STACK_BYTES = 1 << 17, PAINT = 0xA5, STAYS = 7 };
 
-struct plan {
-    int nodes, arcs;
-    uint32_t list[4 * MOST_ARCS];
-    int32_t supplies[MOST_NODES];
-};
+/* ---- what is asked ---- */
 
-/* The buffers start with the same bytes for both, so that an entry that must stay is compared too. */
+/* All that a request can write. Every byte starts the same for everyone, so an entry that must stay is compared too. */
 struct outcome {
     struct blenrop_answer answer;
-    uint32_t arcs[MOST_ARCS];
+    uint64_t domains[MOST_NODES];
+    uint32_t arcs[4 * MOST_ARCS]; /* an arc buffer, lows, or a list of arcs */
+    uint32_t highs[MOST_ARCS];
+    int32_t supplies[MOST_NODES];
     uint8_t nodes[MOST_NODES];
+    uint8_t file[MOST_FILE];
 };
 
-/* ---- plans ---- */
+typedef void asks(const struct unit *, const struct plan *, struct outcome *);
 
-static uint64_t seed;
+/* Slices as they are lent. */
+#define ALL(buffer) (buffer), sizeof(buffer) / sizeof *(buffer)
+#define ARCS p->list, 4 * (size_t)p->arcs
+#define ARC_STRUCTS (const struct blenrop_arc *)p->list, (size_t)p->arcs
+#define SUPPLIES p->supplies, (size_t)p->nodes
+#define DOMAINS p->domains, (size_t)p->variables
+#define COUNTS p->counts, 2 * (size_t)p->values
+#define FILE_BYTES p->file, p->file_length
 
-/* splitmix64: small, and the same everywhere */
-static uint64_t draw(void)
-{
-    uint64_t z = (seed += 0x9E3779B97F4A7C15u);
-    z = (z ^ (z >> 30)) * 0xBF58476D1CE4E5B9u;
-    z = (z ^ (z >> 27)) * 0x94D049BB133111EBu;
-    return z ^ (z >> 31);
-}
-
-static uint32_t below(uint32_t n)
-{
-    return (uint32_t)(draw() % n);
-}
-
-/* Adds an arc with a count and bounds around it, and has the supplies follow the count. */
-static void add_arc(struct plan *p, uint32_t from, uint32_t to, uint32_t widest)
-{
-    uint32_t count = below(widest + 1);
-    uint32_t *arc = p->list + 4 * p->arcs++;
-    arc[0] = from;
-    arc[1] = to;
-    arc[2] = below(2) ? 0 : below(count + 1);
-    arc[3] = below(4) ? count + below(widest - count + 1) : widest;
-    p->supplies[from] += (int32_t)count;
-    p->supplies[to] -= (int32_t)count;
-}
-
-static void empty_plan(struct plan *p, int nodes)
-{
-    p->nodes = nodes;
-    p->arcs = 0;
-    memset(p->supplies, 0, sizeof p->supplies);
-}
-
-static int supplies_fit(const struct plan *p)
-{
-    for (int v = 0; v < p->nodes; v++)
-        if (MOST_SUPPLY < abs(p->supplies[v]))
-            return 0;
-    return 1;
-}
-
-static void sparse(struct plan *p, int arcs, uint32_t widest)
-{
-    empty_plan(p, MOST_NODES);
-    while (p->arcs < arcs)
-        add_arc(p, below(MOST_NODES), below(MOST_NODES), widest);
-}
-
-/* All arcs between eight nodes: many parallel and opposite ones, and self-loops. */
-static void dense(struct plan *p, int arcs, uint32_t widest)
-{
-    empty_plan(p, MOST_NODES);
-    while (p->arcs < arcs)
-        add_arc(p, 8 * below(8), 8 * below(8), widest);
-}
-
-/* Eight layers of eight nodes, arcs from each to the next. */
-static void layered(struct plan *p, int arcs, uint32_t widest)
-{
-    empty_plan(p, MOST_NODES);
-    while (p->arcs < arcs) {
-        uint32_t layer = below(7);
-        add_arc(p, 8 * layer + below(8), 8 * (layer + 1) + below(8), widest);
+#define REQUEST(name, ...) \
+    static void ask_##name(const struct unit *u, const struct plan *p, struct outcome *o) \
+    { \
+        o->answer = u->name(__VA_ARGS__); \
     }
-}
 
-/* A sparse plan in which a set of few nodes has more than can leave it. */
-static void infeasible(struct plan *p, int arcs, uint32_t widest)
+REQUEST(flow, ARCS, SUPPLIES, ALL(o->arcs), ALL(o->nodes))
+REQUEST(narrow, ARCS, SUPPLIES, ALL(o->arcs), ALL(o->highs))
+REQUEST(reason, ARCS, SUPPLIES, p->arc, p->end, ALL(o->arcs), ALL(o->nodes))
+REQUEST(held, ARCS, SUPPLIES, p->arc, p->count, ALL(o->arcs))
+REQUEST(flow_arcs, ARC_STRUCTS, SUPPLIES, ALL(o->arcs), ALL(o->nodes))
+REQUEST(narrow_arcs, ARC_STRUCTS, SUPPLIES, ALL(o->arcs), ALL(o->highs))
+REQUEST(count, DOMAINS, COUNTS, ALL(o->domains), ALL(o->arcs), ALL(o->highs))
+REQUEST(count_network, DOMAINS, COUNTS, ALL(o->supplies), ALL(o->arcs))
+REQUEST(file_read, FILE_BYTES, ALL(o->supplies), ALL(o->arcs))
+REQUEST(file_write, ARCS, SUPPLIES, ALL(o->file))
+REQUEST(file_payload, FILE_BYTES, p->block)
+
+/* What `count` answers, read off one narrowing of the plan's network: an assignment has a pair if the pair's arc can
+   have a count of 1. */
+static void ask_narrow_to_count(const struct unit *u, const struct plan *p, struct outcome *o)
 {
-    uint8_t in[MOST_NODES] = {0};
-    uint32_t inside = below(MOST_NODES), outside;
-    int64_t slack = 0;
-    sparse(p, arcs, widest);
-    in[inside] = 1;
-    for (uint32_t more = below(4); 0 < more; more--)
-        in[below(MOST_NODES)] = 1;
-    do {
-        outside = below(MOST_NODES);
-    } while (in[outside]);
-    for (int k = 0; k < arcs; k++) {
-        const uint32_t *arc = p->list + 4 * k;
-        slack += in[arc[0]] && !in[arc[1]] ? arc[3] : 0;
-        slack -= !in[arc[0]] && in[arc[1]] ? arc[2] : 0;
+    uint32_t lows[MOST_ARCS], highs[MOST_ARCS];
+    int pairs = p->variables * p->values;
+    o->answer = u->narrow(ARCS, SUPPLIES, ALL(lows), ALL(highs));
+    if (o->answer.number != BLENROP_DONE)
+        return;
+    for (int i = 0; i < p->variables; i++) {
+        o->domains[i] = 0;
+        for (int j = 0; j < p->values; j++)
+            o->domains[i] |= (uint64_t)highs[i * p->values + j] << j;
     }
-    for (int v = 0; v < MOST_NODES; v++)
-        slack -= in[v] ? p->supplies[v] : 0;
-    slack += 1 + below(widest);
-    p->supplies[inside] += (int32_t)slack;
-    p->supplies[outside] -= (int32_t)slack;
+    memcpy(o->arcs, lows + pairs, (size_t)p->values * sizeof *lows);
+    memcpy(o->highs, highs + pairs, (size_t)p->values * sizeof *highs);
 }
 
-/* A few nodes and arcs with little room, fitting or not: the odd cases. */
-static void tiny(struct plan *p)
-{
-    int nodes = 1 + (int)below(6), arcs = (int)below(13);
-    uint32_t widest = 1 + below(4);
-    empty_plan(p, nodes);
-    while (p->arcs < arcs)
-        add_arc(p, below((uint32_t)nodes), below((uint32_t)nodes), widest);
-    if (below(2)) {
-        p->supplies[below((uint32_t)nodes)] += 1;
-        p->supplies[below((uint32_t)nodes)] -= 1;
-    }
-}
-
-struct family {
+/* It is asked about plans of its kind. The yardstick is the textbook program's entry of the same name, or another
+   request to the unit, which gives the same answer. */
+struct request {
     const char *name;
-    void (*make)(struct plan *, int arcs, uint32_t widest);
-    uint32_t widest;
+    size_t entry; /* where struct unit has it */
+    asks *ask;
+    int kind;
+    const char *yardstick;
+    asks *ask_yardstick;
 };
 
-static const struct family families[] = {
-    {"sparse, to 65535", sparse, WIDEST_HIGH},    {"sparse, to 10", sparse, 10},
-    {"dense, to 65535", dense, WIDEST_HIGH},      {"dense, to 10", dense, 10},
-    {"layered, to 65535", layered, WIDEST_HIGH},  {"layered, to 10", layered, 10},
-    {"infeasible, to 65535", infeasible, WIDEST_HIGH}, {"infeasible, to 10", infeasible, 10},
+#define ROW(name, kind, yardstick, ask_yardstick) \
+    {#name, offsetof(struct unit, name), ask_##name, kind, yardstick, ask_yardstick}
+#define BY_TEXTBOOK(name, kind) ROW(name, kind, "textbook", NULL)
+
+static const struct request requests[] = {
+    BY_TEXTBOOK(flow, NETWORK),
+    BY_TEXTBOOK(narrow, NARROWING),
+    BY_TEXTBOOK(reason, NETWORK),
+    BY_TEXTBOOK(held, NETWORK),
+    ROW(flow_arcs, NETWORK, "flow", ask_flow),
+    ROW(narrow_arcs, NETWORK, "narrow", ask_narrow),
+    ROW(count, COUNTING, "narrow", ask_narrow_to_count),
+    BY_TEXTBOOK(count_network, COUNTING),
+    BY_TEXTBOOK(file_read, FILES),
+    BY_TEXTBOOK(file_write, FILES),
+    BY_TEXTBOOK(file_payload, FILES),
 };
 
-/* ---- the two programs, and their answers ---- */
+/* ---- who is asked ---- */
 
-static void ask_unit(const struct plan *p, struct outcome *o)
+static struct unit unit, before; /* all null if there is no second archive */
+
+static struct unit load(const char *path)
 {
-    o->answer = blenrop_flow(p->list, 4 * (size_t)p->arcs, p->supplies, (size_t)p->nodes, o->arcs, MOST_ARCS,
-                             o->nodes, MOST_NODES);
-}
-
-static void ask_textbook(const struct plan *p, struct outcome *o)
-{
-    o->answer = textbook_flow(p->list, p->arcs, p->supplies, p->nodes, o->arcs, o->nodes);
-}
-
-static void print_plan(const struct plan *p)
-{
-    printf("supplies");
-    for (int v = 0; v < p->nodes; v++)
-        printf(" %d", p->supplies[v]);
-    printf("\n");
-    for (int k = 0; k < p->arcs; k++)
-        printf("arc %u %u %u %u\n", p->list[4 * k], p->list[4 * k + 1], p->list[4 * k + 2], p->list[4 * k + 3]);
-}
-
-/* Whether the two agree on number, index, value, and every entry of both buffers. */
-static int agree(const struct plan *p, const char *name)
-{
-    struct outcome unit, textbook;
-    memset(&unit, 7, sizeof unit);
-    memset(&textbook, 7, sizeof textbook);
-    ask_unit(p, &unit);
-    ask_textbook(p, &textbook);
-    if (unit.answer.number == textbook.answer.number && unit.answer.index == textbook.answer.index
-        && unit.answer.value == textbook.answer.value && !memcmp(unit.arcs, textbook.arcs, sizeof unit.arcs)
-        && !memcmp(unit.nodes, textbook.nodes, sizeof unit.nodes))
-        return 1;
-    printf("DIFFERENCE in %s: unit %u %lld, textbook %u %lld\n", name, unit.answer.number,
-           (long long)unit.answer.value, textbook.answer.number, (long long)textbook.answer.value);
-    print_plan(p);
-    return 0;
-}
-
-/* One broken limit in a plan that is right otherwise: the number and the place of the answer. */
-static int refuses(uint32_t number, uint32_t index, struct plan *p, size_t arc_room)
-{
-    uint32_t arcs[MOST_ARCS];
-    uint8_t nodes[MOST_NODES];
-    struct blenrop_answer a = blenrop_flow(p->list, 4 * (size_t)p->arcs, p->supplies, (size_t)p->nodes, arcs,
-                                           arc_room, nodes, MOST_NODES);
-    if (a.number == number && a.index == index && a.value == 0)
-        return 1;
-    printf("DIFFERENCE: refused with %u at %u, not %u at %u\n", a.number, a.index, number, index);
-    return 0;
-}
-
-static int refusals(void)
-{
-    static struct plan p;
-    int right = 1;
-    layered(&p, MOST_ARCS, 10);
-    right &= refuses(3, 0, &p, MOST_ARCS - 1);
-    p.supplies[63] += 1;
-    right &= refuses(7, 0, &p, MOST_ARCS);
-    p.supplies[62] = -MOST_SUPPLY - 1;
-    right &= refuses(6, 62, &p, MOST_ARCS);
-    p.list[4 * 511 + 3] = WIDEST_HIGH + 1;
-    right &= refuses(5, 511, &p, MOST_ARCS);
-    p.list[4 * 510 + 1] = 64;
-    right &= refuses(4, 510, &p, MOST_ARCS);
-    p.nodes = 0;
-    right &= refuses(1, 0, &p, MOST_ARCS);
-    return right;
-}
-
-/* ---- time ---- */
-
-typedef void asks(const struct plan *, struct outcome *);
-
-static double now_us(void)
-{
-    struct timespec t;
-    clock_gettime(CLOCK_MONOTONIC, &t);
-    return (double)t.tv_sec * 1e6 + (double)t.tv_nsec / 1e3;
-}
-
-static int by_size(const void *a, const void *b)
-{
-    double x = *(const double *)a, y = *(const double *)b;
-    return (x > y) - (x < y);
-}
-
-static double median(double *times, int calls)
-{
-    qsort(times, (size_t)calls, sizeof *times, by_size);
-    return times[calls / 2];
-}
-
-/* Goes once round all the plans, so that no plan is warmer than another. */
-static void time_round(asks *ask, const struct plan *plans, double *times)
-{
-    struct outcome o;
-    for (int i = 0; i < PLANS; i++) {
-        double start = now_us();
-        ask(&plans[i], &o);
-        times[i] = now_us() - start;
+    struct unit u;
+    void *archive = dlopen(path, RTLD_NOW | RTLD_LOCAL);
+    if (!archive) {
+        fprintf(stderr, "%s\n", dlerror());
+        exit(2);
     }
+#define FIND(name) *(void **)&u.name = dlsym(archive, "blenrop_" #name);
+    EVERY_ENTRY(FIND)
+#undef FIND
+    return u;
 }
 
-/* The two take turns, so that a slow moment of the machine meets both. */
-static void time_both(const struct plan *plans, int rounds, double *unit, double *textbook)
+static int has(const struct unit *u, const struct request *r)
 {
-    static double unit_times[MOST_ROUNDS * PLANS], textbook_times[MOST_ROUNDS * PLANS];
-    for (int round = 0; round < rounds; round++) {
-        time_round(ask_unit, plans, unit_times + round * PLANS);
-        time_round(ask_textbook, plans, textbook_times + round * PLANS);
-    }
-    *unit = median(unit_times, rounds * PLANS);
-    *textbook = median(textbook_times, rounds * PLANS);
+    return *(void *const *)((const char *)u + r->entry) != NULL;
+}
+
+enum { UNIT, YARDSTICK, BEFORE, PARTIES };
+
+/* One of those that are asked: a function and what it is asked of; no function if it is left out. */
+struct party {
+    asks *ask;
+    const struct unit *of;
+    struct outcome outcomes[PLANS];
+    double times[MOST_ROUNDS * PLANS];
+    double median;
+    double ratio; /* to the unit's time */
+    long stack;
+};
+
+static struct party parties[PARTIES];
+
+static void choose(const struct request *r)
+{
+    parties[UNIT].ask = r->ask;
+    parties[UNIT].of = &unit;
+    parties[YARDSTICK].ask = r->ask_yardstick ? r->ask_yardstick : r->ask;
+    parties[YARDSTICK].of = r->ask_yardstick ? &unit : &textbook;
+    parties[BEFORE].ask = has(&before, r) ? r->ask : NULL;
+    parties[BEFORE].of = &before;
+    for (int a = 0; a < PARTIES; a++)
+        parties[a].stack = 0;
 }
 
 /* ---- stack ---- */
 
 static ucontext_t back, there;
-static const struct plan *stack_plan;
+static const struct party *on_stack;
+static const struct plan *on_stack_plan;
 static char *stack_top;
 
 static void on_painted_stack(void)
 {
     static struct outcome o;
     stack_top = __builtin_frame_address(0);
-    ask_unit(stack_plan, &o);
+    on_stack->ask(on_stack->of, on_stack_plan, &o);
 }
 
-/* The bytes below the caller's frame that a call changes: everything that the unit uses. */
-static long stack_bytes(const struct plan *p)
+/* The bytes below the caller's frame that a call changes: everything that it uses. */
+static long stack_bytes(const struct party *a, const struct plan *p)
 {
     static char stack[STACK_BYTES];
     long untouched = 0;
     memset(stack, PAINT, sizeof stack);
-    stack_plan = p;
+    on_stack = a;
+    on_stack_plan = p;
     getcontext(&there);
     there.uc_stack.ss_sp = stack;
     there.uc_stack.ss_size = sizeof stack;
@@ -297,50 +186,166 @@ static long stack_bytes(const struct plan *p)
     return (long)(stack_top - stack) - untouched;
 }
 
-/* ---- all of it ---- */
-
-static struct plan plans[PLANS];
-
-static void make_plans(const struct family *f, int arcs)
+static void measure_stack(struct party *a, const struct plan *plans)
 {
-    for (int i = 0; i < PLANS; i++)
-        do {
-            f->make(&plans[i], arcs, f->widest);
-        } while (!supplies_fit(&plans[i]));
+    for (int i = 0; i < PLANS; i++) {
+        long bytes = stack_bytes(a, &plans[i]);
+        a->stack = a->stack < bytes ? bytes : a->stack;
+    }
 }
 
-static int compare_tiny(int *compared)
+/* ---- answers ---- */
+
+static void report(const struct request *r, const struct group *g, int i, const struct party *a)
 {
-    int right = 1;
-    for (int i = 0; i < TINY_PLANS; i++, ++*compared) {
-        tiny(&plans[0]);
-        right &= agree(&plans[0], "tiny");
+    const struct outcome *one = &a->outcomes[i], *other = &parties[YARDSTICK].outcomes[i];
+    const uint8_t *byte = (const uint8_t *)one, *other_byte = (const uint8_t *)other;
+    size_t at = sizeof one->answer;
+    printf("DIFFERENCE in blenrop_%s%s, %s\n", r->name, a == &parties[BEFORE] ? " before" : "", g->name);
+    print_plan(&g->plans[i]);
+    printf("the archive answers %u %u %lld, the yardstick %u %u %lld\n", one->answer.number, one->answer.index,
+           (long long)one->answer.value, other->answer.number, other->answer.index, (long long)other->answer.value);
+    while (at < sizeof *one && byte[at] == other_byte[at])
+        at++;
+    if (at < sizeof *one)
+        printf("the buffers differ from byte %zu of struct outcome on\n", at);
+}
+
+/* Prints the first plan of a group about which the answers differ, and ends the program. */
+static void must_agree(const struct request *r, const struct group *g, const struct party *a)
+{
+    for (int i = 0; i < PLANS; i++)
+        if (memcmp(&a->outcomes[i], &parties[YARDSTICK].outcomes[i], sizeof *a->outcomes)) {
+            report(r, g, i, a);
+            exit(1);
+        }
+}
+
+/* ---- time ---- */
+
+static double microseconds(clockid_t clock)
+{
+    struct timespec t;
+    clock_gettime(clock, &t);
+    return (double)t.tv_sec * 1e6 + (double)t.tv_nsec / 1e3;
+}
+
+/* The time of one call. If the machine does something else in the middle of it, that is the processor's time; else the
+   clock's, which is less since it is read inside. */
+static double time_call(struct party *a, const struct plan *p, struct outcome *o)
+{
+    double processor = microseconds(CLOCK_THREAD_CPUTIME_ID), clock = microseconds(CLOCK_MONOTONIC);
+    a->ask(a->of, p, o);
+    clock = microseconds(CLOCK_MONOTONIC) - clock;
+    processor = microseconds(CLOCK_THREAD_CPUTIME_ID) - processor;
+    return clock < processor ? clock : processor;
+}
+
+static int by_size(const void *a, const void *b)
+{
+    double x = *(const double *)a, y = *(const double *)b;
+    return (x > y) - (x < y);
+}
+
+static double median(double *numbers, int count)
+{
+    qsort(numbers, (size_t)count, sizeof *numbers, by_size);
+    return numbers[count / 2];
+}
+
+/* A ratio is taken call by call, of the same plan and round, before the unit's times are put in order. */
+static void sum_up(struct party *a, int calls)
+{
+    static double ratios[MOST_ROUNDS * PLANS];
+    for (int i = 0; i < calls; i++)
+        ratios[i] = a->times[i] / parties[UNIT].times[i];
+    a->ratio = median(ratios, calls);
+    a->median = median(a->times, calls);
+}
+
+/* Goes once round all the plans, so that no plan is warmer than another. */
+static void time_round(struct party *a, const struct plan *plans, int round)
+{
+    memset(a->outcomes, STAYS, sizeof a->outcomes);
+    for (int i = 0; i < PLANS; i++)
+        a->times[round * PLANS + i] = time_call(a, &plans[i], &a->outcomes[i]);
+}
+
+/* All take turns, so that a slow moment of the machine meets each of them, and all answers of a round must agree. */
+static void time_all(const struct request *r, const struct group *g, int rounds)
+{
+    for (int round = 0; round < rounds; round++) {
+        for (int a = 0; a < PARTIES; a++)
+            if (parties[a].ask)
+                time_round(&parties[a], g->plans, round);
+        for (int a = 0; a < PARTIES; a++)
+            if (parties[a].ask)
+                must_agree(r, g, &parties[a]);
     }
-    return right;
+    for (int a = PARTIES - 1; 0 <= a; a--)
+        sum_up(&parties[a], rounds * PLANS);
+}
+
+/* ---- all of it ---- */
+
+/* Columns stand two spaces apart at least, and no name has two: bench/tables relies on it. */
+static void print_head(void)
+{
+    printf("%-14s  %-24s  %4s  %9s  %-9s  %9s  %7s", "request", "plans", "arcs", "unit us", "yardstick", "its us",
+           "ratio");
+    printf(before.flow ? "  %9s  %7s\n" : "\n", "before us", "ratio");
+}
+
+static void print_times(const struct request *r, const struct group *g)
+{
+    printf("%-14s  %-24s  %4d  %9.2f  %-9s  %9.2f  %7.2f", r->name, g->name, g->plans[0].arcs,
+           parties[UNIT].median, r->yardstick, parties[YARDSTICK].median, parties[YARDSTICK].ratio);
+    if (parties[BEFORE].ask)
+        printf("  %9.2f  %7.2f", parties[BEFORE].median, parties[BEFORE].ratio);
+    printf("\n");
+    fflush(stdout);
+}
+
+static void print_stack(const struct request *r)
+{
+    printf("%-14s  %-24s  %ld", r->name, "stack, bytes", parties[UNIT].stack);
+    if (parties[BEFORE].ask)
+        printf("  before  %ld", parties[BEFORE].stack);
+    printf("\n");
+}
+
+/* Returns how many calls were timed. */
+static long bench(const struct request *r, int group_count, int rounds)
+{
+    long calls = 0;
+    choose(r);
+    for (const struct group *g = groups; g < groups + group_count; g++) {
+        if (!(g->kinds & r->kind))
+            continue;
+        measure_stack(&parties[UNIT], g->plans);
+        if (parties[BEFORE].ask)
+            measure_stack(&parties[BEFORE], g->plans);
+        time_all(r, g, rounds);
+        print_times(r, g);
+        calls += rounds * PLANS;
+    }
+    print_stack(r);
+    return calls;
 }
 
 int main(int argc, char **argv)
 {
-    static const int sizes[] = {64, 256, 512};
-    int rounds = argc < 2 ? 5 : atoi(argv[1]), compared = 0, right = refusals();
-    long most_stack = 0;
-    double unit, textbook;
+    int rounds = argc < 3 ? 0 : atoi(argv[1]), group_count = make_groups();
+    long calls = 0;
     if (rounds < 1 || MOST_ROUNDS < rounds)
-        return fprintf(stderr, "rounds: 1 to %d\n", MOST_ROUNDS), 2;
-    right &= compare_tiny(&compared);
-    printf("%-22s %5s %10s %12s %8s\n", "family", "arcs", "unit us", "textbook us", "ratio");
-    for (size_t f = 0; f < sizeof families / sizeof *families; f++)
-        for (int s = 0; s < 3; s++) {
-            make_plans(&families[f], sizes[s]);
-            for (int i = 0; i < PLANS; i++, compared++) {
-                long used = stack_bytes(&plans[i]);
-                most_stack = most_stack < used ? used : most_stack;
-                right &= agree(&plans[i], families[f].name);
-            }
-            time_both(plans, rounds, &unit, &textbook);
-            printf("%-22s %5d %10.1f %12.1f %8.2f\n", families[f].name, sizes[s], unit, textbook, textbook / unit);
-        }
-    printf("stack: %ld bytes at most\n", most_stack);
-    printf("%d plans compared: %s\n", compared, right ? "all agree" : "THEY DIFFER");
-    return !right;
+        return fprintf(stderr, "bench ROUNDS UNIT.so [BEFORE.so], 1 to %d rounds\n", MOST_ROUNDS), 2;
+    unit = load(argv[2]);
+    if (3 < argc)
+        before = load(argv[3]);
+    print_head();
+    for (size_t i = 0; i < sizeof requests / sizeof *requests; i++)
+        if (has(&unit, &requests[i]))
+            calls += bench(&requests[i], group_count, rounds);
+    printf("%ld calls timed, all answers agree\n", calls);
+    return 0;
 }

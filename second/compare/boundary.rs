@@ -16,7 +16,6 @@ extern "C" {
         node_buffer_length: usize,
     ) -> Answer;
 
-    #[cfg(have_arc_structs)]
     pub fn blenrop_flow_arcs(
         arcs: *const Arc,
         arcs_length: usize,
@@ -28,7 +27,6 @@ extern "C" {
         node_buffer_length: usize,
     ) -> Answer;
 
-    #[cfg(have_narrow)]
     pub fn blenrop_narrow(
         arcs: *const u32,
         arcs_length: usize,
@@ -40,7 +38,6 @@ extern "C" {
         highs_length: usize,
     ) -> Answer;
 
-    #[cfg(have_arc_structs)]
     pub fn blenrop_narrow_arcs(
         arcs: *const Arc,
         arcs_length: usize,
@@ -52,7 +49,6 @@ extern "C" {
         highs_length: usize,
     ) -> Answer;
 
-    #[cfg(have_narrow)]
     pub fn blenrop_reason(
         arcs: *const u32,
         arcs_length: usize,
@@ -66,7 +62,6 @@ extern "C" {
         node_buffer_length: usize,
     ) -> Answer;
 
-    #[cfg(have_narrow)]
     pub fn blenrop_held(
         arcs: *const u32,
         arcs_length: usize,
@@ -78,7 +73,6 @@ extern "C" {
         arc_buffer_length: usize,
     ) -> Answer;
 
-    #[cfg(have_count)]
     pub fn blenrop_count(
         domains: *const u64,
         domains_length: usize,
@@ -92,7 +86,6 @@ extern "C" {
         new_highs_length: usize,
     ) -> Answer;
 
-    #[cfg(have_count)]
     pub fn blenrop_count_network(
         domains: *const u64,
         domains_length: usize,
@@ -104,7 +97,6 @@ extern "C" {
         arcs_length: usize,
     ) -> Answer;
 
-    #[cfg(have_file)]
     pub fn blenrop_file_read(
         file: *const u8,
         file_length: usize,
@@ -114,7 +106,6 @@ extern "C" {
         arcs_length: usize,
     ) -> Answer;
 
-    #[cfg(have_file)]
     pub fn blenrop_file_write(
         arcs: *const u32,
         arcs_length: usize,
@@ -124,6 +115,5 @@ extern "C" {
         file_length: usize,
     ) -> Answer;
 
-    #[cfg(have_file)]
     pub fn blenrop_file_payload(file: *const u8, file_length: usize, block: u32) -> Answer;
 }

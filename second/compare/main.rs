@@ -47,9 +47,7 @@ fn compare(run: &mut Run, rounds: usize) {
     pass::worked::all(run);
     for number in 0..rounds {
         pass::networks::round(run, number);
-        #[cfg(have_count)]
         pass::countings::round(run, number);
-        #[cfg(have_file)]
         pass::files::round(run);
     }
 }

@@ -46,8 +46,34 @@ static const uint32_t p1_arcs[] = {0, 1, 0, 4, 0, 2, 0, 3, 1, 2, 0, 9};
 static const struct blenrop_arc p1_structs[] = {{0, 1, 0, 4}, {0, 2, 0, 3}, {1, 2, 0, 9}};
 static const int32_t p6_supplies[] = {1, -1};
 
+/* P12: one variable with an empty domain, one value with count range 0..1. P13: one node, supply 0, no arcs. */
+static const uint64_t p12_domains[] = {0};
+static const uint32_t p12_counts[] = {0, 1};
+static const int32_t p13_supplies[] = {0};
+
 #define P1 p1_arcs, LENGTH(p1_arcs), p1_supplies, LENGTH(p1_supplies)
 #define P1_STRUCTS p1_structs, LENGTH(p1_structs), p1_supplies, LENGTH(p1_supplies)
+
+#define P12 p12_domains, LENGTH(p12_domains), p12_counts, LENGTH(p12_counts)
+#define P13 NULL, 0, p13_supplies, LENGTH(p13_supplies)
+
+/* The second half of asked(). */
+static int asked_more(void) {
+    uint32_t a[8] = {7, 7, 7, 7, 7, 7, 7, 7};
+    uint64_t d[1] = {7};
+    int32_t s[3] = {7, 7, 7};
+    uint8_t file[513] = {0};
+    file[512] = 7;
+    if (!is(blenrop_count(P12, d, 1, a, 1, a + 1, 1), 9, 0, 1) || d[0] != 7 || !counts(a, 7, 7, 7)) return 12;
+    if (!is(blenrop_count_network(P12, s, 3, a, 8), 0, 0, 0) || s[0] != 1 || s[1] != 0 || s[2] != -1) return 13;
+    if (!counts(a, 0, 1, 0) || !counts(a + 3, 0, 1, 2) || !counts(a + 5, 2, 0, 1)) return 14;
+    if (!is(blenrop_file_write(P13, file, 513), 0, 0, 512) || !marks(file + 510, 4, 0, 7)) return 15;
+    if (!is(blenrop_file_read(file, 512, s, 3, NULL, 0), 0, 1, 0) || s[0] != 0 || s[1] != 0 || s[2] != -1) return 16;
+    if (!is(blenrop_file_payload(file, 512, 0), 0, 6, 504)) return 17;
+    if (!is(blenrop_file_payload(file, 512, 1), 8, 0, 0)) return 18;
+    if (!is(blenrop_file_read(file, 513, s, 3, NULL, 0), 11, 0, 0)) return 19;
+    return 0;
+}
 
 static int asked(void) {
     uint32_t a[3] = {7, 7, 7}, b[3] = {7, 7, 7};
@@ -64,7 +90,7 @@ static int asked(void) {
     if (!is(blenrop_flow(NULL, 0, p6_supplies, 2, NULL, 0, v, 3), 9, 0, 1) || !marks(v, 1, 0, 0)) return 9;
     if (!is(blenrop_flow(NULL, 0, NULL, 0, NULL, 0, NULL, 0), 1, 0, 0)) return 10;
     if (!is(blenrop_flow_arcs(NULL, 0, p6_supplies, 2, NULL, 0, v, 3), 9, 0, 1) || !marks(v, 1, 0, 0)) return 11;
-    return 0;
+    return asked_more();
 }
 
 /* Linux on x86-64: the system call 60 ends the process. */

@@ -1,8 +1,8 @@
 -- The order of the rules: what one list of rules says comes before what the next one says, and a rule that concerns nothing gives
 -- way to what comes after.
-use Prim.Native.Nat.{ℕ, zero, suc, _+_, _*_, _/_, _≤_, _<_}
+use Prim.Native.Nat.{ℕ, _*_, _/_, _≤_, _<_}
 use mathlib.Core.Path.{_≡_, refl, ap, sym, _∙_}
-use mathlib.Core.Bool.{Bool, true, false, cond, _||_}
+use mathlib.Core.Bool.{Bool, true, false, _||_}
 use mathlib.Core.List.{List, [], _∷_, _++_}
 use native.Mathlib.Omega.{arith}
 use lib.Dec.{leb, ltb}
@@ -14,30 +14,10 @@ use Rattle.plan.specs.Plan.{Plan}
 use Rattle.plan.specs.Verdict.{Rule, Lowest, lowest, verdict, whole, count-rules, limit-rules}
 use Rattle.plan.specs.declared.Verdict.{Verdict}
 use Rattle.plan.specs.declared.Verdict.the-variants.{Accepted, Refused}
-use Rattle.plan.proofs.Refusals.{lowest-at, lowest-past, accepted-clear, neither}
+use Rattle.plan.proofs.Refusals.{after, verdict-after, lowest-at, lowest-past, accepted-clear, neither}
 use Rattle.blocks.specs.Format.{Edition, blocks-of}
 use Rattle.blocks.specs.Held.{held}
 use Rattle.blocks.specs.Rules.{blocks-in, length-wrong, check-wrong, label-wrong, content-wrong, shape-rules, content-rules, block-rules, reading-rules, payload-rules, lent-short}
-
--- what comes after counts only where nothing was turned down before
-abbrev pub after : Verdict → Verdict → Verdict
-after Accepted v = v
-after (Refused n i) v = Refused n i
-
-lowest-after : (number : ℕ) (concerns : ℕ → Bool) (n : ℕ) (u v : Verdict) → lowest number concerns n (after u v) ≡ after (lowest number concerns n u) v
-lowest-after number concerns zero u v = refl
-lowest-after number concerns (suc n) u v =
-    ap (lowest number concerns n) (picked (concerns n)) ∙ lowest-after number concerns n (cond (concerns n) (Refused number n) u) v
-  where
-    picked : (t : Bool) → cond t (Refused number n) (after u v) ≡ after (cond t (Refused number n) u) v
-    picked true = refl
-    picked false = refl
-
-verdict-after : (rules more : List Rule) → verdict (rules ++ more) ≡ after (verdict rules) (verdict more)
-verdict-after [] more = refl
-verdict-after (r ∷ rules) more =
-    ap (lowest (r .number) (r .concerns) (r .places)) (verdict-after rules more)
-    ∙ lowest-after (r .number) (r .concerns) (r .places) (verdict rules) (verdict more)
 
 module _ (rules more : List Rule) where
   pub before-refused : {v : Verdict} {n i : ℕ} → v ≡ verdict rules → v ≡ Refused n i → Refused n i ≡ verdict (rules ++ more)

@@ -1,5 +1,5 @@
--- The plan file of document 01: the file of a network is a function of the network, byte by byte. What a later edition changes,
--- kinds, bytes an arc, arcs a block and the longest file, stands in one record; the rest is the same in every edition.
+-- The plan file of document 01: the file of a network is a function of the network, byte by byte. The sizes that a later edition
+-- changes, kinds, bytes an arc, arcs a block and the longest file, stand in one record; what an arc's record holds does not.
 use Prim.Native.Nat.{ℕ, suc, _+_, _-_, _*_, _/_, _%_, _^_, _<_, min}
 use mathlib.Core.Path.{_≡_}
 use mathlib.Core.Bool.{cond}

@@ -1,62 +1,36 @@
 -- From the lists that the network is drawn into to the network itself: a plan of the two lists is the network below its counts, so
 -- what narrowing answers of the one it answers of the other.
-use Prim.Native.Nat.{ℕ, _+_, _-_, _*_, _/_, _≤_, _<_}
-use mathlib.Core.Path.{_≡_, _∙_}
+use Prim.Native.Nat.{ℕ, _-_, _*_, _≤_}
+use mathlib.Core.Path.{_≡_}
 use mathlib.Core.List.{List}
 use native.Mathlib.Omega.{arith}
 use native.Mathlib.Nat.{sub-zero}
-use lib.IntN.{ℤ, pos}
-use lib.ListN.{length, getD, take, drop}
-use lib.Seq.{length-take-le, getD-take}
+use lib.IntN.{ℤ}
+use lib.ListN.{length, take, drop}
 use borrow.Author.Tests.{le-ltb}
-use Rattle.engine.specs.Room.{at}
 use Rattle.plan.specs.Limits.{arc-entries}
 use Rattle.plan.specs.Plan.{Plan, WellFormed, plan-of}
 use Rattle.plan.specs.declared.Verdict.the-variants.{Accepted}
-use Rattle.plan.proofs.Alike.{Alike, alike-back, alike-has-flow, alike-occurs, alike-smallest, alike-largest, alike-short-by, alike-well-formed}
+use Rattle.plan.specs.Keeping.{SamePlan}
+use Rattle.plan.proofs.Alike.{alike-back, alike-has-flow, alike-occurs, alike-smallest, alike-largest, alike-short-by, alike-well-formed}
 use Rattle.plan.proofs.Refusals.{accepted-or-refused, well-formed-accepted}
+use Rattle.lists.specs.Written.{ArcsWritten, SuppliesWritten}
+use Rattle.lists.proofs.Same.{written-plan}
 use Rattle.flow.specs.declared.Answer.{Answer}
 use Rattle.flow.specs.declared.Answer.the-variants.{Runs, Short, Refused}
 use Rattle.narrow.specs.Answer.{judged, Says, NarrowAnswers}
-use Rattle.count.specs.Drawn.{ArcsDrawn, SuppliesDrawn}
 
 -- the first n entries of a list, as a part of it that is lent
 abbrev pub front : {A : Type 0} → ℕ → List A → List A
 front n list = take (n - 0) (drop 0 list)
 
-module _ {A : Type 0} (n : ℕ) (list : List A) (fits : n ≤ length list) where
-  front-length : length (front n list) ≡ n
-  front-length = rw (sub-zero n) (length-take-le n list fits)
-
-  front-at : {i : ℕ} (d : A) → i < n → getD (front n list) i d ≡ getD list i d
-  front-at {i} d l = rw (sub-zero n) (getD-take n list i d l)
-
 -- the network stands in the first entries of the lists that it was drawn into
-module _ {p : Plan} {arcs₀ arcs : List ℕ} {supplies₀ supplies : List ℤ}
-    (arcs-drawn : ArcsDrawn p (p .arcs) arcs₀ arcs) (supplies-drawn : SuppliesDrawn p (p .nodes) supplies₀ supplies)
-    (arcs-fit : p .arcs * arc-entries ≤ length arcs) (supplies-fit : p .nodes ≤ length supplies) where
-  abbrev part : List ℕ
-  part = front (p .arcs * arc-entries) arcs
-
-  arcs-are : length part / arc-entries ≡ p .arcs
-  arcs-are = omega (arith, front-length (p .arcs * arc-entries) arcs arcs-fit)
-
-  entry : (i : ℕ) → i < p .arcs * arc-entries → at part i ≡ at arcs i
-  entry i = front-at (p .arcs * arc-entries) arcs arcs-fit 0
-
-  pub drawn-alike : Alike (plan-of (front (p .arcs * arc-entries) arcs) (front (p .nodes) supplies)) p
-  drawn-alike = record {
-    network = record {
-      nodes = front-length (p .nodes) supplies supplies-fit;
-      arcs = arcs-are;
-      supply = λ v l. let small : v < p .nodes = omega (arith, front-length (p .nodes) supplies supplies-fit) in
-          front-at (p .nodes) supplies supplies-fit (pos 0) small ∙ supplies-drawn .supply-is v small;
-      from = λ k l. entry (k * arc-entries) (omega (arith, arcs-are)) ∙ arcs-drawn .from-is k (omega (arith, arcs-are));
-      to = λ k l. entry (k * arc-entries + 1) (omega (arith, arcs-are)) ∙ arcs-drawn .to-is k (omega (arith, arcs-are));
-    };
-    low = λ k l. entry (k * arc-entries + 2) (omega (arith, arcs-are)) ∙ arcs-drawn .low-is k (omega (arith, arcs-are));
-    high = λ k l. entry (k * arc-entries + 3) (omega (arith, arcs-are)) ∙ arcs-drawn .high-is k (omega (arith, arcs-are));
-  }
+pub drawn-alike : {p : Plan} {arcs₀ arcs : List ℕ} {supplies₀ supplies : List ℤ}
+    → ArcsWritten p (p .arcs) arcs₀ arcs → SuppliesWritten p (p .nodes) supplies₀ supplies
+    → p .arcs * arc-entries ≤ length arcs → p .nodes ≤ length supplies
+    → SamePlan (plan-of (front (p .arcs * arc-entries) arcs) (front (p .nodes) supplies)) p
+drawn-alike {p} a s arcs-fit supplies-fit =
+    rw (sub-zero (p .arcs * arc-entries), sub-zero (p .nodes)) (written-plan a s arcs-fit supplies-fit)
 
 -- a well-formed plan whose buffers are long enough is accepted
 accepted : (p : Plan) (lows highs : List ℕ) → WellFormed p → p .arcs ≤ length lows → p .arcs ≤ length highs
@@ -69,7 +43,7 @@ pub not-refused : {p : Plan} {lows highs lows′ highs′ : List ℕ} {n i : ℕ
 not-refused {p} {lows} {highs} w low-fits high-fits said =
     accepted-or-refused (accepted p lows highs w low-fits high-fits) (said .says .0)
 
-module _ {p q : Plan} (a : Alike q p) (w : WellFormed p) (lows highs lows′ highs′ : List ℕ)
+module _ {p q : Plan} (a : SamePlan q p) (w : WellFormed p) (lows highs lows′ highs′ : List ℕ)
     (low-fits : p .arcs ≤ length lows) (high-fits : p .arcs ≤ length highs) where
   asked-alike : (r : Answer) → Says q lows highs lows′ highs′ r → Says p lows highs lows′ highs′ r
   asked-alike Runs said = (

@@ -1,30 +1,27 @@
 -- For every input the promises of the two requests admit one answer and one content of each buffer: a word is known by its bits,
 -- fewest and most uses are unique, and where the network is short there is no assignment.
-use Prim.Native.Nat.{ℕ, zero, suc, _+_, _*_, _/_, _%_, _<_}
+use Prim.Native.Nat.{ℕ}
 use mathlib.Core.Path.{_≡_, refl, sym, ap, _∙_}
 use mathlib.Core.Bool.{Bool, true, false}
 use mathlib.Core.List.{List}
-use mathlib.Core.Logic.{_↔_, by-cases}
+use mathlib.Core.Logic.{_↔_}
 use native.Mathlib.Omega.{arith}
-use native.Mathlib.Decide.{decLt}
-use lib.IntN.{ℤ, pos}
+use lib.IntN.{ℤ}
 use lib.ListN.{length}
-use lib.Seq.{ext-getD}
 use Rattle.engine.specs.Room.{at}
-use Rattle.plan.specs.Limits.{arc-entries}
-use Rattle.plan.specs.Plan.{Plan, Set}
+use Rattle.plan.specs.Plan.{Set}
 use Rattle.plan.specs.Shortage.{ShortBy}
 use Rattle.plan.specs.declared.Verdict.{Verdict}
 use Rattle.plan.specs.declared.Verdict.the-variants.{Accepted, Refused as TurnedDown}
 use Rattle.plan.proofs.Refusals.{accepted-or-refused}
 use Rattle.plan.proofs.Unique.{short-by-unique, short-or-flow}
-use Rattle.stand.proofs.Writing.{alike}
+use Rattle.lists.proofs.Entries.{one-content, entries-unique}
+use Rattle.lists.proofs.Arcs.{arcs-unique}
 use Rattle.flow.specs.Answer.{number}
 use Rattle.flow.specs.declared.Answer.{Answer}
 use Rattle.flow.specs.declared.Answer.the-variants.{Runs, Short, Refused}
 use Rattle.count.specs.Counting.{Counting, counting-of, Assignment, FewestUses, MostUses}
 use Rattle.count.specs.Network.{network}
-use Rattle.count.specs.Drawn.{ArcsDrawn, SuppliesDrawn}
 use Rattle.count.specs.Answer.{NetworkAnswers, Handed, Buffers, judged, Counted, CountAnswers}
 use Rattle.count.proofs.Words.{same-word}
 use Rattle.count.proofs.Assigned.{assignment-flows}
@@ -58,12 +55,12 @@ module _ {c : Counting} {b x y : Buffers} (f : Counted c b x) (g : Counted c b y
       → length (x .lows) ≡ length (b .lows) → length (y .lows) ≡ length (b .lows)
       → length (x .highs) ≡ length (b .highs) → length (y .highs) ≡ length (b .highs) → x ≡ y
   counted-unique dx dy lx ly hx hy = same-buffers
-      (alike (c .variables) (b .domains) (x .domains) (y .domains) dx dy
+      (one-content 0 (c .variables) (b .domains) (x .domains) (y .domains) dx dy
       (λ i l. same-word (at (x .domains) i) (at (y .domains) i) (λ j. same-test _ _ (f .domain i l j) (g .domain i l j)))
       (f .domains-past) (g .domains-past))
-      (alike (c .values) (b .lows) (x .lows) (y .lows) lx ly (λ j l. fewest-unique (f .fewest j l) (g .fewest j l))
+      (one-content 0 (c .values) (b .lows) (x .lows) (y .lows) lx ly (λ j l. fewest-unique (f .fewest j l) (g .fewest j l))
       (f .lows-past) (g .lows-past))
-      (alike (c .values) (b .highs) (x .highs) (y .highs) hx hy (λ j l. most-unique (f .most j l) (g .most j l))
+      (one-content 0 (c .values) (b .highs) (x .highs) (y .highs) hx hy (λ j l. most-unique (f .most j l) (g .most j l))
       (f .highs-past) (g .highs-past))
 
 -- ---- the counting request
@@ -102,30 +99,10 @@ module _ (domains counts : List ℕ) (b : Buffers) where
 
 -- ---- the network, handed out
 
-module _ {p : Plan} {k : ℕ} {arcs a b : List ℕ} (f : ArcsDrawn p k arcs a) (g : ArcsDrawn p k arcs b) where
-  -- an entry is one of the four of its arc
-  entry-unique : (i d : ℕ) → i < k → d < arc-entries → at a (i * arc-entries + d) ≡ at b (i * arc-entries + d)
-  entry-unique i zero l m = ap (at a) (omega arith) ∙ f .from-is i l ∙ sym (g .from-is i l) ∙ ap (at b) (omega arith)
-  entry-unique i (suc zero) l m = f .to-is i l ∙ sym (g .to-is i l)
-  entry-unique i (suc (suc zero)) l m = f .low-is i l ∙ sym (g .low-is i l)
-  entry-unique i (suc (suc (suc zero))) l m = f .high-is i l ∙ sym (g .high-is i l)
-  entry-unique i (suc (suc (suc (suc d)))) l m = absurd (omega arith)
-
-  arcs-unique : a ≡ b
-  arcs-unique = alike (k * arc-entries) arcs a b (f .same-length) (g .same-length)
-      (λ i l. let parts : i ≡ i / arc-entries * arc-entries + i % arc-entries = omega arith in
-      ap (at a) parts ∙ entry-unique (i / arc-entries) (i % arc-entries) (omega arith) (omega arith) ∙ sym (ap (at b) parts))
-      (f .past) (g .past)
-
-supplies-unique : {p : Plan} {n : ℕ} {supplies a b : List ℤ} → SuppliesDrawn p n supplies a → SuppliesDrawn p n supplies b → a ≡ b
-supplies-unique {n = n} {a = a} {b} f g = ext-getD (pos 0) a b (f .same-length ∙ sym (g .same-length)) (λ v l. by-cases (decLt v n)
-    (λ below. f .supply-is v below ∙ sym (g .supply-is v below))
-    (λ no. f .past v (omega arith) ∙ sym (g .past v (omega arith))))
-
 module _ (domains counts : List ℕ) (supplies : List ℤ) (arcs : List ℕ) where
   handed-unique : {s s′ : List ℤ} {a a′ : List ℕ} (v : Verdict) → Handed (counting-of domains counts) supplies arcs s a v
       → Handed (counting-of domains counts) supplies arcs s′ a′ v → (s ≡ s′) × (a ≡ a′)
-  handed-unique Accepted f g = (supplies-unique (f .0) (g .0), arcs-unique (f .1) (g .1))
+  handed-unique Accepted f g = (entries-unique (f .0) (g .0), arcs-unique (f .1) (g .1))
   handed-unique (TurnedDown n i) f g = (f .0 ∙ sym (g .0), f .1 ∙ sym (g .1))
 
   pub network-answers-unique : {s s′ : List ℤ} {a a′ : List ℕ} {r r′ : Verdict} → NetworkAnswers domains counts supplies arcs s a r

@@ -14,11 +14,11 @@ use Rattle.plan.specs.Shortage.{ShortBy}
 use Rattle.plan.specs.Verdict.{Rule, verdict, whole}
 use Rattle.plan.specs.declared.Verdict.{Verdict}
 use Rattle.plan.specs.declared.Verdict.the-variants.{Accepted, Refused as TurnedDown}
+use Rattle.lists.specs.Written.{ArcsWritten, SuppliesWritten}
 use Rattle.flow.specs.declared.Answer.{Answer}
 use Rattle.flow.specs.declared.Answer.the-variants.{Runs, Short, Refused}
 use Rattle.count.specs.Counting.{Counting, counting-of, holds, Assignment, Taken, FewestUses, MostUses}
 use Rattle.count.specs.Network.{network}
-use Rattle.count.specs.Drawn.{ArcsDrawn, SuppliesDrawn}
 
 -- a word names a value at or above the value count
 abbrev pub names-beyond : (domains : List ℕ) → (values : ℕ) → ℕ → Bool
@@ -54,7 +54,7 @@ network-judged domains counts supplies arcs =
 -- the network is written where the input is accepted, and nothing where it is turned down
 abbrev pub Handed : Counting → (supplies : List ℤ) → (arcs : List ℕ) → (supplies′ : List ℤ) → (arcs′ : List ℕ) → Verdict → Type 0
 Handed c supplies arcs supplies′ arcs′ Accepted =
-    SuppliesDrawn (network c) (network c .nodes) supplies supplies′ × ArcsDrawn (network c) (network c .arcs) arcs arcs′
+    SuppliesWritten (network c) (network c .nodes) supplies supplies′ × ArcsWritten (network c) (network c .arcs) arcs arcs′
 Handed c supplies arcs supplies′ arcs′ (TurnedDown n place) = (supplies′ ≡ supplies) × (arcs′ ≡ arcs)
 
 pub record NetworkAnswers (domains counts : List ℕ) (supplies : List ℤ) (arcs : List ℕ) (supplies′ : List ℤ) (arcs′ : List ℕ) (answer : Verdict) : Type 0 where

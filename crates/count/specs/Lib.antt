@@ -1,7 +1,6 @@
--- Counting plans: what an assignment is, the network that a counting plan is drawn as, how it is written down, how a domain is read
--- off narrowed counts, and what the requests answer.
+-- Counting plans: what an assignment is, the network that a counting plan is drawn as, how a domain is read off narrowed counts, and
+-- what the requests answer.
 pub mod Counting
 pub mod Network
-pub mod Drawn
 pub mod Narrowed
 pub mod Answer

@@ -1,4 +1,5 @@
 // The check of a counting plan: the number and the lowest place by which document 01 turns it down.
+use crate::RANGE_ENTRIES;
 use plan::Arc;
 use plan::Plan;
 use plan::Verdict;
@@ -39,8 +40,8 @@ fn count_wrong(domains: &[u64], counts: &[u32], j: usize) -> bool
     requires { ⌜ j < length (now counts) / range-entries ⌝ }
     ensures { λ r. ⌜ r ≡ count-wrong (counting-of (now (domains .entry)) (now (counts .entry))) j ⌝ }
 {
-    let high = counts[j * 2 + 1];
-    if high < counts[j * 2] {
+    let high = counts[j * RANGE_ENTRIES + 1];
+    if high < counts[j * RANGE_ENTRIES] {
         return true;
     }
     Arc::WIDEST_HIGH < high
@@ -50,7 +51,7 @@ fn count_wrong(domains: &[u64], counts: &[u32], j: usize) -> bool
 fn lowest_wrong_count(domains: &[u64], counts: &[u32]) -> usize
     ensures { λ r. ⌜ Lowest (count-wrong (counting-of (now (domains .entry)) (now (counts .entry)))) (length (now (counts .entry)) / range-entries) r ⌝ }
 {
-    let w = counts.len() / 2;
+    let w = counts.len() / RANGE_ENTRIES;
     let mut j = 0;
     while j < w {
         if count_wrong(domains, counts, j) {
@@ -66,7 +67,7 @@ pub fn check(domains: &[u64], counts: &[u32]) -> Verdict
     ensures { λ r. ⌜ r ≡ verdict (counting-rules (now (domains .entry)) (counting-of (now (domains .entry)) (now (counts .entry)))) ⌝ }
 {
     let v = domains.len();
-    let w = counts.len() / 2;
+    let w = counts.len() / RANGE_ENTRIES;
     if Plan::MOST_NODES <= v + w {
         return Verdict::Refused(15, 0);
     }

@@ -1,4 +1,6 @@
 // The network of a counting plan of v variables and w values, arc by arc and node by node. Internal.
+use crate::RANGE_ENTRIES;
+use lists::write_arc;
 use plan::Arc;
 ghost use mathlib.Core.Path.{_≡_};
 ghost use mathlib.Core.Bool.{cond};
@@ -10,9 +12,9 @@ ghost use lib.ListN.{length};
 ghost use Rattle.numbers.specs.Sums.{only};
 ghost use Rattle.engine.specs.Room.{at};
 ghost use Rattle.plan.specs.Limits.{most-nodes, arc-entries};
+ghost use Rattle.lists.specs.Written.{ArcsWritten, SuppliesWritten};
 ghost use Rattle.count.specs.Counting.{Counting, holds, range-entries, counting-of};
 ghost use Rattle.count.specs.Network.{network};
-ghost use Rattle.count.specs.Drawn.{ArcWritten, ArcsDrawn, SuppliesDrawn};
 
 // How often a variable can take value j: once if its domain has it, else never.
 fn times(word: u64, j: u32) -> u32
@@ -39,8 +41,8 @@ fn count_arc(counts: &[u32], v: usize, w: usize, j: usize) -> Arc
     requires { ⌜ (j < w) × (w ≡ length (now counts) / range-entries) × (v + w < most-nodes) ⌝ }
     ensures { λ r. ⌜ r ≡ record { from = v + j; to = v + w; low = at (now (counts .entry)) (j * range-entries); high = at (now (counts .entry)) (j * range-entries + 1) } ⌝ }
 {
-    let low = counts[j * 2];
-    let high = counts[j * 2 + 1];
+    let low = counts[j * RANGE_ENTRIES];
+    let high = counts[j * RANGE_ENTRIES + 1];
     Arc::new((v + j) as u32, (v + w) as u32, low, high)
 }
 
@@ -58,24 +60,12 @@ fn supply_of(v: usize, w: usize, u: usize) -> i32
     -(v as i32)
 }
 
-// Writes arc k of a flat list.
-fn write_arc(arcs: &mut [u32], k: usize, arc: Arc)
-    requires { ⌜ k * arc-entries + 3 < length (now arcs) ⌝ }
-    ensures { λ r. ⌜ ArcWritten k (arc .from) (arc .to) (arc .low) (arc .high) (now (arcs .entry)) (now (arcs .exit)) ⌝ }
-{
-    let first = k * Arc::ENTRIES;
-    arcs[first] = arc.from;
-    arcs[first + 1] = arc.to;
-    arcs[first + 2] = arc.low;
-    arcs[first + 3] = arc.high;
-}
-
 // Writes the arcs from variable i to all w values, where those of the variables before it stand.
 fn draw_row(domains: &[u64], counts: &[u32], w: usize, i: usize, arcs: &mut [u32])
     requires size { ⌜ (w ≡ length (now counts) / range-entries) × (length (now domains) + w < most-nodes) ⌝ }
     requires row { ⌜ i < length (now domains) ⌝ }
     requires whole { ⌜ (length (now domains) * w + w) * arc-entries ≤ length (now arcs) ⌝ }
-    ensures { λ r. ⌜ ((before : List ℕ) → ArcsDrawn (network (counting-of (now (domains .entry)) (now (counts .entry)))) (i * w) before (now (arcs .entry)) → ArcsDrawn (network (counting-of (now (domains .entry)) (now (counts .entry)))) (i * w + w) before (now (arcs .exit))) ⌝ }
+    ensures { λ r. ⌜ ((before : List ℕ) → ArcsWritten (network (counting-of (now (domains .entry)) (now (counts .entry)))) (i * w) before (now (arcs .entry)) → ArcsWritten (network (counting-of (now (domains .entry)) (now (counts .entry)))) (i * w + w) before (now (arcs .exit))) ⌝ }
 {
     let mut j = 0;
     while j < w {
@@ -88,7 +78,7 @@ fn draw_row(domains: &[u64], counts: &[u32], w: usize, i: usize, arcs: &mut [u32
 fn draw_pairs(domains: &[u64], counts: &[u32], w: usize, arcs: &mut [u32])
     requires size { ⌜ (w ≡ length (now counts) / range-entries) × (length (now domains) + w < most-nodes) ⌝ }
     requires whole { ⌜ (length (now domains) * w + w) * arc-entries ≤ length (now arcs) ⌝ }
-    ensures { λ r. ⌜ ArcsDrawn (network (counting-of (now (domains .entry)) (now (counts .entry)))) (length (now (domains .entry)) * w) (now (arcs .entry)) (now (arcs .exit)) ⌝ }
+    ensures { λ r. ⌜ ArcsWritten (network (counting-of (now (domains .entry)) (now (counts .entry)))) (length (now (domains .entry)) * w) (now (arcs .entry)) (now (arcs .exit)) ⌝ }
 {
     let mut i = 0;
     while i < domains.len() {
@@ -101,7 +91,7 @@ fn draw_pairs(domains: &[u64], counts: &[u32], w: usize, arcs: &mut [u32])
 fn draw_counts(domains: &[u64], counts: &[u32], w: usize, arcs: &mut [u32])
     requires size { ⌜ (w ≡ length (now counts) / range-entries) × (length (now domains) + w < most-nodes) ⌝ }
     requires whole { ⌜ (length (now domains) * w + w) * arc-entries ≤ length (now arcs) ⌝ }
-    ensures { λ r. ⌜ ((before : List ℕ) → ArcsDrawn (network (counting-of (now (domains .entry)) (now (counts .entry)))) (length (now (domains .entry)) * w) before (now (arcs .entry)) → ArcsDrawn (network (counting-of (now (domains .entry)) (now (counts .entry)))) (length (now (domains .entry)) * w + w) before (now (arcs .exit))) ⌝ }
+    ensures { λ r. ⌜ ((before : List ℕ) → ArcsWritten (network (counting-of (now (domains .entry)) (now (counts .entry)))) (length (now (domains .entry)) * w) before (now (arcs .entry)) → ArcsWritten (network (counting-of (now (domains .entry)) (now (counts .entry)))) (length (now (domains .entry)) * w + w) before (now (arcs .exit))) ⌝ }
 {
     let v = domains.len();
     let mut j = 0;
@@ -115,7 +105,7 @@ fn draw_counts(domains: &[u64], counts: &[u32], w: usize, arcs: &mut [u32])
 pub fn draw_arcs(domains: &[u64], counts: &[u32], w: usize, arcs: &mut [u32])
     requires size { ⌜ (w ≡ length (now counts) / range-entries) × (length (now domains) + w < most-nodes) ⌝ }
     requires whole { ⌜ (length (now domains) * w + w) * arc-entries ≤ length (now arcs) ⌝ }
-    ensures { λ r. ⌜ ArcsDrawn (network (counting-of (now (domains .entry)) (now (counts .entry)))) (length (now (domains .entry)) * w + w) (now (arcs .entry)) (now (arcs .exit)) ⌝ }
+    ensures { λ r. ⌜ ArcsWritten (network (counting-of (now (domains .entry)) (now (counts .entry)))) (length (now (domains .entry)) * w + w) (now (arcs .entry)) (now (arcs .exit)) ⌝ }
 {
     draw_pairs(domains, counts, w, arcs);
     draw_counts(domains, counts, w, arcs);
@@ -124,7 +114,7 @@ pub fn draw_arcs(domains: &[u64], counts: &[u32], w: usize, arcs: &mut [u32])
 // Writes the supplies of the network of v variables and w values.
 pub fn draw_supplies(v: usize, w: usize, supplies: &mut [i32])
     requires { ⌜ (v + w < most-nodes) × (v + w < length (now supplies)) ⌝ }
-    ensures { λ r. ⌜ ((c : Counting) → c .variables ≡ v → c .values ≡ w → SuppliesDrawn (network c) (v + w + 1) (now (supplies .entry)) (now (supplies .exit))) ⌝ }
+    ensures { λ r. ⌜ ((c : Counting) → c .variables ≡ v → c .values ≡ w → SuppliesWritten (network c) (v + w + 1) (now (supplies .entry)) (now (supplies .exit))) ⌝ }
 {
     let mut u = 0;
     while u <= v + w {

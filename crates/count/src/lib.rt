@@ -4,3 +4,6 @@
 pub mod check;
 pub mod draw;
 pub mod request;
+
+// A count range is so many numbers of a list: low, high.
+pub const RANGE_ENTRIES: usize = 2;

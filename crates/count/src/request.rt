@@ -1,4 +1,5 @@
 // The two requests of document 01 about a counting plan, for every input: what can still occur, and the network.
+use crate::RANGE_ENTRIES;
 use crate::check::check;
 use crate::draw::draw_arcs;
 use crate::draw::draw_supplies;
@@ -32,7 +33,7 @@ fn narrow_network(domains: &[u64], counts: &[u32], lows: &mut [u32], highs: &mut
     ensures { λ r. ⌜ NarrowAnswers (network (counting-of (now (domains .entry)) (now (counts .entry)))) (now (lows .entry)) (now (highs .entry)) (now (lows .exit)) (now (highs .exit)) r ⌝ }
 {
     let v = domains.len();
-    let w = counts.len() / 2;
+    let w = counts.len() / RANGE_ENTRIES;
     let mut arcs = [0u32; Plan::MOST_ARCS * Arc::ENTRIES];
     let mut supplies = [0i32; Plan::MOST_NODES];
     draw_arcs(domains, counts, w, &mut arcs);
@@ -101,7 +102,7 @@ fn work_out(
     ensures { λ r. ⌜ CountAnswers (now (domains .entry)) (now (counts .entry)) (record { domains = now («new_domains» .entry); lows = now (lows .entry); highs = now (highs .entry) }) (record { domains = now («new_domains» .exit); lows = now (lows .exit); highs = now (highs .exit) }) r ⌝ }
 {
     let v = domains.len();
-    let w = counts.len() / 2;
+    let w = counts.len() / RANGE_ENTRIES;
     let mut arc_lows = [0u32; Plan::MOST_ARCS];
     let mut arc_highs = [0u32; Plan::MOST_ARCS];
     let answer = narrow_network(domains, counts, &mut arc_lows, &mut arc_highs);
@@ -140,7 +141,7 @@ pub fn count(
     if let Verdict::Refused(number, index) = check(domains, counts) {
         return Answer::Refused(number, index);
     }
-    let w = counts.len() / 2;
+    let w = counts.len() / RANGE_ENTRIES;
     if buffers_short(domains.len(), w, new_domains.len(), lows.len(), highs.len()) {
         return Answer::Refused(3, 0);
     }
@@ -158,7 +159,7 @@ pub fn count_network(
     ensures { λ r. ⌜ NetworkAnswers (now (domains .entry)) (now (counts .entry)) (now (supplies .entry)) (now (arcs .entry)) (now (supplies .exit)) (now (arcs .exit)) r ⌝ }
 {
     let v = domains.len();
-    let w = counts.len() / 2;
+    let w = counts.len() / RANGE_ENTRIES;
     if let Verdict::Refused(number, index) = check(domains, counts) {
         return Verdict::Refused(number, index);
     }

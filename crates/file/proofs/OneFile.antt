@@ -13,14 +13,15 @@ use lib.Seq.{ext-getD, getD-at}
 use borrow.Author.Tests.{lt-ltb, le-ltb, eq-eqb, ne-eqb}
 use Rattle.numbers.proofs.Sums.{last-or-before}
 use Rattle.plan.specs.Plan.{Plan, WellFormed}
+use Rattle.plan.specs.Keeping.{SamePlan}
+use Rattle.plan.proofs.Refusals.{well-formed-limits}
+use Rattle.plan.proofs.Alike.{limits-alike}
 use Rattle.blocks.specs.Format.{Edition, first-edition, block-size, payload-at, check-at, digit, blocks-of, kind-of, first-count, second-count, content-end, label-byte, content-byte, body-byte, block-byte, check-of, file-byte, file-length, FileOf}
 use Rattle.blocks.specs.Held.{one, two, place, byte, record-at, held, Bytes}
 use Rattle.blocks.specs.Rules.{blocks-in, FileAccepted}
 use Rattle.blocks.specs.Sound.{Shaped, Contained, Sound}
 use Rattle.blocks.proofs.Digits.{Unpacked, packed-back, packed-there, supply-back, supply-there}
 use Rattle.blocks.proofs.Accepted.{reading-accepted, accepted-reading, sound-long}
-use Rattle.file.specs.Same.{SamePlan}
-use Rattle.file.proofs.Alike.{limits-alike, well-formed-limits}
 use Rattle.file.proofs.Places.{record-place, file-at, body-label, body-content, body-unused, check-same, inside-arcs}
 
 -- ---- a network has one file, in every edition
@@ -205,15 +206,23 @@ module _ (p : Plan) (w : WellFormed p) (file : List ℕ) (f : FileOf first-editi
         ∙ content-there block (k % 84 * 6 + i) inside-block (arc-inside i li) (omega arith)
         ∙ rw (ne-eqb block 0 (λ e. omega arith), quotient, rest))
 
+  nodes-held : held first-edition file .nodes ≡ p .nodes
+  nodes-held = labels′ 0 some-block .third
+
+  arcs-held : held first-edition file .arcs ≡ p .arcs
+  arcs-held = labels′ 0 some-block .fourth
+
   pub file-holds : SamePlan (held first-edition file) p
   file-holds = record {
-    nodes = labels′ 0 some-block .third;
-    arcs = labels′ 0 some-block .fourth;
-    supply = supply-held;
-    from = λ k l. arc-held k l .first;
-    to = λ k l. arc-held k l .second;
-    low = λ k l. arc-held k l .third;
-    high = λ k l. arc-held k l .fourth;
+    network = record {
+      nodes = nodes-held;
+      arcs = arcs-held;
+      supply = λ v l. supply-held v (omega (arith, nodes-held));
+      from = λ k l. arc-held k (omega (arith, arcs-held)) .first;
+      to = λ k l. arc-held k (omega (arith, arcs-held)) .second;
+    };
+    low = λ k l. arc-held k (omega (arith, arcs-held)) .third;
+    high = λ k l. arc-held k (omega (arith, arcs-held)) .fourth;
   }
 
   -- what the file says of itself
@@ -249,12 +258,12 @@ module _ (p : Plan) (w : WellFormed p) (file : List ℕ) (f : FileOf first-editi
   file-sound : Sound first-edition file
   file-sound = record {
     shape = shaped;
-    counts = rw (file-holds .nodes, file-holds .arcs) (record { some-node = w .some-node; nodes-fit = w .nodes-fit; arcs-fit = w .arcs-fit });
-    content = rw (file-holds .nodes, file-holds .arcs) contained;
+    counts = rw (nodes-held, arcs-held) (record { some-node = w .some-node; nodes-fit = w .nodes-fit; arcs-fit = w .arcs-fit });
+    content = rw (nodes-held, arcs-held) contained;
   }
 
   pub file-accepted : FileAccepted first-edition file × SamePlan (held first-edition file) p
   file-accepted = (
-    record { accepted = accepted-reading first-edition file file-sound (limits-alike (held first-edition file) p file-holds ∙ well-formed-limits p w) refl },
+    record { accepted = accepted-reading first-edition file file-sound (limits-alike file-holds ∙ well-formed-limits p w) refl },
     file-holds,
   )

@@ -13,7 +13,7 @@ use Rattle.plan.specs.Plan.{Plan}
 use Rattle.blocks.specs.Format.{Edition, block-size, payload-at, check-at, check-modulus, supply-size, digit, arcs-before, arcs-in, label-byte, content-byte, content-end, body-byte, block-byte, check-of, file-byte}
 use Rattle.blocks.specs.Held.{one, two, place, record-at, held}
 use Rattle.blocks.proofs.Check.{weighted-same}
-use Rattle.file.specs.Filled.{Records}
+use Rattle.file.specs.Records.{Records}
 
 module _ (e : Edition) where
   -- the j-th arc of arc block b is arc `arcs-before e b + j`, and its record the j-th of the payload
@@ -21,6 +21,10 @@ module _ (e : Edition) where
   record-place b j some l =
       let back : 1 + (b - 1) ≡ b = omega arith in
       rw (digits-div (b - 1) l, digits-mod (b - 1) l, back)
+
+-- how long a part of a block is, by where it starts and ends in the block
+pub part-long : (x i j : ℕ) → x + j - (x + i) ≡ j - i
+part-long x i j = omega arith
 
 module _ (file : List ℕ) (start end : ℕ) where
   abbrev part : List ℕ

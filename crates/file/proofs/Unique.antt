@@ -12,6 +12,8 @@ use Rattle.plan.specs.Verdict.{Rule, lowest, verdict}
 use Rattle.plan.specs.declared.Verdict.{Verdict}
 use Rattle.plan.specs.declared.Verdict.the-variants.{Accepted, Refused as TurnedDown}
 use Rattle.plan.proofs.Refusals.{accepted-or-refused}
+use Rattle.lists.proofs.Entries.{entries-unique}
+use Rattle.lists.proofs.Arcs.{arcs-unique}
 use Rattle.blocks.specs.Format.{Edition, payload-at, check-at}
 use Rattle.blocks.specs.Held.{place}
 use Rattle.blocks.specs.Rules.{payload-rules}
@@ -20,14 +22,13 @@ use Rattle.file.specs.declared.Answer.{Answer}
 use Rattle.file.specs.declared.Answer.the-variants.{Read, Refused}
 use Rattle.file.specs.declared.Written.{Written}
 use Rattle.file.specs.declared.Written.the-variants.{Length, Refused as NotWritten}
-use Rattle.file.proofs.Fill.{supplies-unique, arcs-unique, bytes-unique}
 
 pub read-answers-unique : (e : Edition) (file : List ℕ) (supplies : List ℤ) (arcs : List ℕ) {s s′ : List ℤ} {a a′ : List ℕ} (r r′ : Answer)
     → ReadAnswers e file supplies s arcs a r → ReadAnswers e file supplies s′ arcs a′ r′ → (r ≡ r′) × (s ≡ s′) × (a ≡ a′)
 read-answers-unique e file supplies arcs {s} {s′} {a} {a′} (Read n m) (Read n′ m′) x y =
     let nodes : n′ ≡ n = y .says .1 ∙ sym (x .says .1) in
     let count : m′ ≡ m = y .says .2 ∙ sym (x .says .2) in
-    (rw (nodes, count), supplies-unique (x .says .3) (rw nodes at (y .says .3)), arcs-unique (x .says .4) (rw count at (y .says .4)))
+    (rw (nodes, count), entries-unique (x .says .3) (rw nodes at (y .says .3)), arcs-unique (x .says .4) (rw count at (y .says .4)))
 read-answers-unique e file supplies arcs (Read n m) (Refused n′ i) x y = absurd (accepted-or-refused (x .says .0) (y .says .0))
 read-answers-unique e file supplies arcs (Refused n i) (Read n′ m) x y = absurd (accepted-or-refused (y .says .0) (x .says .0))
 read-answers-unique e file supplies arcs (Refused n i) (Refused n′ i′) x y = (
@@ -40,7 +41,7 @@ pub write-answers-unique : (e : Edition) (p : Plan) (file : List ℕ) {f f′ : 
     → WriteAnswers e p file f r → WriteAnswers e p file f′ r′ → (r ≡ r′) × (f ≡ f′)
 write-answers-unique e p file {f} {f′} (Length n) (Length n′) x y =
     let long : n′ ≡ n = y .says .1 ∙ sym (x .says .1) in
-    (rw long, bytes-unique (x .says .2) (rw long at (y .says .2)))
+    (rw long, entries-unique (x .says .2) (rw long at (y .says .2)))
 write-answers-unique e p file (Length n) (NotWritten m i) x y = absurd (accepted-or-refused (x .says .0) (y .says .0))
 write-answers-unique e p file (NotWritten n i) (Length m) x y = absurd (accepted-or-refused (y .says .0) (x .says .0))
 write-answers-unique e p file (NotWritten n i) (NotWritten n′ i′) x y = (cc (x .says .0, y .says .0), x .says .1 ∙ sym (y .says .1))

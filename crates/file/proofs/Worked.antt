@@ -1,5 +1,4 @@
 -- Document 01's worked figures for the plan file: the check of P13, and how many blocks some arc counts need.
-use Prim.Native.Nat.{ℕ}
 use mathlib.Core.Path.{_≡_, refl}
 use lib.IntN.{pos}
 use Rattle.plan.specs.Plan.{Plan}

@@ -9,10 +9,10 @@ use Rattle.plan.specs.Plan.{Plan}
 use Rattle.plan.specs.Verdict.{verdict, network-rules}
 use Rattle.plan.specs.declared.Verdict.{Verdict}
 use Rattle.plan.specs.declared.Verdict.the-variants.{Accepted, Refused as TurnedDown}
+use Rattle.lists.specs.Written.{EntriesWritten, SuppliesWritten, ArcsWritten}
 use Rattle.blocks.specs.Format.{Edition, payload-at, check-at, file-length, file-byte}
 use Rattle.blocks.specs.Held.{place, held}
 use Rattle.blocks.specs.Rules.{reading-rules, payload-rules, lent-short}
-use Rattle.file.specs.Filled.{BytesFilled, SuppliesFilled, ArcsFilled}
 use Rattle.file.specs.declared.Answer.{Answer}
 use Rattle.file.specs.declared.Answer.the-variants.{Read, Refused}
 use Rattle.file.specs.declared.Written.{Written}
@@ -44,7 +44,7 @@ judged-file e file supplies arcs = verdict (reading-rules e file (lent-short (he
 abbrev pub SaysRead : Edition → (file : List ℕ) → (supplies supplies′ : List ℤ) → (arcs arcs′ : List ℕ) → Answer → Type 0
 SaysRead e file supplies supplies′ arcs arcs′ (Read nodes count) =
     (judged-file e file supplies arcs ≡ Accepted) × (nodes ≡ held e file .nodes) × (count ≡ held e file .arcs)
-    × SuppliesFilled (held e file) nodes supplies supplies′ × ArcsFilled (held e file) count arcs arcs′
+    × SuppliesWritten (held e file) nodes supplies supplies′ × ArcsWritten (held e file) count arcs arcs′
 SaysRead e file supplies supplies′ arcs arcs′ (Refused number index) =
     (judged-file e file supplies arcs ≡ TurnedDown number index) × (supplies′ ≡ supplies) × (arcs′ ≡ arcs)
 
@@ -73,7 +73,7 @@ judged-network e p file = verdict (network-rules p (ltb (length file) (file-leng
 -- the network's file stands in the first bytes; else nothing has changed
 abbrev pub SaysWritten : Edition → Plan → (file file′ : List ℕ) → Written → Type 0
 SaysWritten e p file file′ (Length long) =
-    (judged-network e p file ≡ Accepted) × (long ≡ file-length e p) × BytesFilled (file-byte e p) long file file′
+    (judged-network e p file ≡ Accepted) × (long ≡ file-length e p) × EntriesWritten 0 (file-byte e p) long file file′
 SaysWritten e p file file′ (NotWritten number index) = (judged-network e p file ≡ TurnedDown number index) × (file′ ≡ file)
 
 pub record WriteAnswers (e : Edition) (p : Plan) (file file′ : List ℕ) (answer : Written) : Type 0 where

@@ -1,4 +1,3 @@
 -- What reading, writing and the requests for a payload promise.
-pub mod Same
-pub mod Filled
+pub mod Records
 pub mod Answer

@@ -6,6 +6,7 @@ use blocks::bytes::signed;
 use blocks::bytes::two;
 use blocks::layout::arcs_in;
 use blocks::layout::blocks_of;
+use lists::write_arc;
 use plan::Arc;
 ghost use mathlib.Core.Path.{_≡_};
 ghost use mathlib.Core.List.{List};
@@ -13,9 +14,10 @@ ghost use Prim.Native.Nat.{ℕ, _+_, _*_, _≤_, _<_, min};
 ghost use lib.ListN.{length};
 ghost use Rattle.plan.specs.Limits.{most-nodes, most-arcs, arc-entries};
 ghost use Rattle.plan.specs.Plan.{Plan as Meant};
+ghost use Rattle.lists.specs.Written.{SuppliesWritten, ArcsWritten};
 ghost use Rattle.blocks.specs.Format.{first-edition, block-size, blocks-of, arcs-before};
 ghost use Rattle.blocks.specs.Held.{one, two, held};
-ghost use Rattle.file.specs.Filled.{ArcWritten, Records, SuppliesFilled, ArcsFilled};
+ghost use Rattle.file.specs.Records.{Records};
 
 // The arc whose record begins at a place of a payload.
 fn arc_at(payload: &[u8], at: usize) -> Arc
@@ -27,23 +29,11 @@ fn arc_at(payload: &[u8], at: usize) -> Arc
     Arc::new(payload[at] as u32, payload[at + 1] as u32, low, high)
 }
 
-// Writes arc k of a flat list.
-fn write_arc(arcs: &mut [u32], k: usize, arc: Arc)
-    requires { ⌜ k * arc-entries + 3 < length (now arcs) ⌝ }
-    ensures { λ r. ⌜ ArcWritten k (arc .from) (arc .to) (arc .low) (arc .high) (now (arcs .entry)) (now (arcs .exit)) ⌝ }
-{
-    let first = k * Arc::ENTRIES;
-    arcs[first] = arc.from;
-    arcs[first + 1] = arc.to;
-    arcs[first + 2] = arc.low;
-    arcs[first + 3] = arc.high;
-}
-
 // The arc decoder: writes the arcs of a payload's first records, from arc `first` on.
 fn decode(payload: &[u8], first: usize, count: usize, arcs: &mut [u32])
     requires payload { ⌜ count * first-edition .record-size ≤ length (now payload) ⌝ }
     requires arcs { ⌜ (first + count) * arc-entries ≤ length (now arcs) ⌝ }
-    ensures { λ r. ⌜ ((p : Meant) (before : List ℕ) → Records first-edition p first count (now (payload .entry)) → ArcsFilled p first before (now (arcs .entry)) → ArcsFilled p (first + count) before (now (arcs .exit))) ⌝ }
+    ensures { λ r. ⌜ ((p : Meant) (before : List ℕ) → Records first-edition p first count (now (payload .entry)) → ArcsWritten p first before (now (arcs .entry)) → ArcsWritten p (first + count) before (now (arcs .exit))) ⌝ }
 {
     let mut j = 0;
     while j < count {
@@ -56,7 +46,7 @@ fn decode(payload: &[u8], first: usize, count: usize, arcs: &mut [u32])
 fn fill_block(file: &[u8], count: usize, b: usize, arcs: &mut [u32])
     requires block { ⌜ (1 ≤ b) × (b < 256) × ((b + 1) * block-size ≤ length (now file)) ⌝ }
     requires arcs { ⌜ (arcs-before first-edition b ≤ count) × (count * arc-entries ≤ length (now arcs)) ⌝ }
-    ensures { λ r. ⌜ ((before : List ℕ) → ArcsFilled (held first-edition (now (file .entry))) (arcs-before first-edition b) before (now (arcs .entry)) → ArcsFilled (held first-edition (now (file .entry))) (min count (b * first-edition .block-arcs)) before (now (arcs .exit))) ⌝ }
+    ensures { λ r. ⌜ ((before : List ℕ) → ArcsWritten (held first-edition (now (file .entry))) (arcs-before first-edition b) before (now (arcs .entry)) → ArcsWritten (held first-edition (now (file .entry))) (min count (b * first-edition .block-arcs)) before (now (arcs .exit))) ⌝ }
 {
     let start = b * Block::SIZE + Block::PAYLOAD_AT;
     let end = b * Block::SIZE + Block::CHECK_AT;
@@ -68,7 +58,7 @@ fn fill_block(file: &[u8], count: usize, b: usize, arcs: &mut [u32])
 pub fn fill_arcs(file: &[u8], count: usize, arcs: &mut [u32])
     requires file { ⌜ (count ≤ most-arcs) × (blocks-of first-edition count * block-size ≤ length (now file)) ⌝ }
     requires arcs { ⌜ count * arc-entries ≤ length (now arcs) ⌝ }
-    ensures { λ r. ⌜ ArcsFilled (held first-edition (now (file .entry))) count (now (arcs .entry)) (now (arcs .exit)) ⌝ }
+    ensures { λ r. ⌜ ArcsWritten (held first-edition (now (file .entry))) count (now (arcs .entry)) (now (arcs .exit)) ⌝ }
 {
     let blocks = blocks_of(count);
     let mut b = 1;
@@ -82,7 +72,7 @@ pub fn fill_arcs(file: &[u8], count: usize, arcs: &mut [u32])
 pub fn fill_supplies(file: &[u8], count: usize, supplies: &mut [i32])
     requires file { ⌜ (count ≤ most-nodes) × (block-size ≤ length (now file)) ⌝ }
     requires supplies { ⌜ count ≤ length (now supplies) ⌝ }
-    ensures { λ r. ⌜ SuppliesFilled (held first-edition (now (file .entry))) count (now (supplies .entry)) (now (supplies .exit)) ⌝ }
+    ensures { λ r. ⌜ SuppliesWritten (held first-edition (now (file .entry))) count (now (supplies .entry)) (now (supplies .exit)) ⌝ }
 {
     let mut v = 0;
     while v < count {

@@ -18,10 +18,10 @@ ghost use Prim.Native.Nat.{ℕ, _+_, _*_, _/_, _≤_, _<_};
 ghost use lib.ListN.{length};
 ghost use Rattle.plan.specs.Limits.{arc-entries};
 ghost use Rattle.plan.specs.Plan.{Plan as Meant, WellFormed, plan-of};
+ghost use Rattle.lists.specs.Written.{EntriesWritten};
 ghost use Rattle.blocks.specs.Format.{first-edition, block-size, payload-at, check-at, record-byte, content-byte, content-end, body-byte, file-byte};
 ghost use Rattle.blocks.specs.Held.{place};
 ghost use Rattle.blocks.specs.Block.{block-of};
-ghost use Rattle.file.specs.Filled.{BytesFilled};
 ghost use Rattle.file.specs.Answer.{WriteAnswers};
 
 // Byte i of the record of arc k.
@@ -70,7 +70,7 @@ fn body_byte(arcs: &[u32], supplies: &[i32], block: Block, b: usize, i: usize) -
 fn write_body(arcs: &[u32], supplies: &[i32], b: usize, file: &mut [u8])
     requires plan { ⌜ WellFormed (plan-of (now arcs) (now supplies)) ⌝ }
     requires block { ⌜ (b < 256) × (b < length (now file) / block-size) ⌝ }
-    ensures { λ r. ⌜ ((before : List ℕ) → BytesFilled (file-byte first-edition (plan-of (now (arcs .entry)) (now (supplies .entry)))) (place b 0) before (now (file .entry)) → BytesFilled (file-byte first-edition (plan-of (now (arcs .entry)) (now (supplies .entry)))) (place b check-at) before (now (file .exit))) ⌝ }
+    ensures { λ r. ⌜ ((before : List ℕ) → EntriesWritten 0 (file-byte first-edition (plan-of (now (arcs .entry)) (now (supplies .entry)))) (place b 0) before (now (file .entry)) → EntriesWritten 0 (file-byte first-edition (plan-of (now (arcs .entry)) (now (supplies .entry)))) (place b check-at) before (now (file .exit))) ⌝ }
 {
     let block = block_of(supplies.len(), arcs.len() / Arc::ENTRIES, b);
     let mut i = 0;
@@ -83,7 +83,7 @@ fn write_body(arcs: &[u32], supplies: &[i32], b: usize, file: &mut [u8])
 // Writes the check of block b, whose other bytes stand.
 fn write_check(b: usize, file: &mut [u8])
     requires { ⌜ b < length (now file) / block-size ⌝ }
-    ensures { λ r. ⌜ ((p : Meant) (before : List ℕ) → BytesFilled (file-byte first-edition p) (place b check-at) before (now (file .entry)) → BytesFilled (file-byte first-edition p) (place (b + 1) 0) before (now (file .exit))) ⌝ }
+    ensures { λ r. ⌜ ((p : Meant) (before : List ℕ) → EntriesWritten 0 (file-byte first-edition p) (place b check-at) before (now (file .entry)) → EntriesWritten 0 (file-byte first-edition p) (place (b + 1) 0) before (now (file .exit))) ⌝ }
 {
     let check = check_of(file, b);
     let at = b * Block::SIZE + Block::CHECK_AT;
@@ -95,7 +95,7 @@ fn write_check(b: usize, file: &mut [u8])
 fn write_blocks(arcs: &[u32], supplies: &[i32], count: usize, file: &mut [u8])
     requires plan { ⌜ WellFormed (plan-of (now arcs) (now supplies)) ⌝ }
     requires block { ⌜ (count ≤ 256) × (count * block-size ≤ length (now file)) ⌝ }
-    ensures { λ r. ⌜ BytesFilled (file-byte first-edition (plan-of (now (arcs .entry)) (now (supplies .entry)))) (count * block-size) (now (file .entry)) (now (file .exit)) ⌝ }
+    ensures { λ r. ⌜ EntriesWritten 0 (file-byte first-edition (plan-of (now (arcs .entry)) (now (supplies .entry)))) (count * block-size) (now (file .entry)) (now (file .exit)) ⌝ }
 {
     let mut b = 0;
     while b < count {

@@ -15,7 +15,8 @@ use Rattle.plan.proofs.Refusals.{accepted-or-refused}
 use Rattle.plan.proofs.Checked.{accepted-plan}
 use Rattle.plan.proofs.Unique.{first-flow-unique, shortage-unique, short-by-unique, short-or-flow}
 use Rattle.plan.proofs.EitherEnd.{no-marks-alike}
-use Rattle.stand.proofs.Writing.{alike, written-unique}
+use Rattle.lists.proofs.Entries.{one-content}
+use Rattle.stand.proofs.Writing.{written-unique}
 use Rattle.flow.specs.Answer.{number, judged, Lacking, FlowAnswers}
 use Rattle.flow.specs.declared.Answer.{Answer}
 use Rattle.flow.specs.declared.Answer.the-variants.{Runs, Short, Refused}
@@ -46,7 +47,7 @@ module _ (p : Plan) (arcs nodes : List ℕ) where
       → FlowAnswers p arcs nodes a n r → FlowAnswers p arcs nodes a′ n′ r′ → (r ≡ r′) × (a ≡ a′) × (n ≡ n′)
   flow-answers-unique {a} {a′ = a′} Runs Runs x y = (
     refl,
-    alike (p .arcs) arcs a a′ (x .arcs-length) (y .arcs-length)
+    one-content 0 (p .arcs) arcs a a′ (x .arcs-length) (y .arcs-length)
         (first-flow-unique p (at a) (at a′) (x .says .1 .0 .first) (y .says .1 .0 .first))
         (x .says .1 .0 .past) (y .says .1 .0 .past),
     x .says .1 .1 ∙ sym (y .says .1 .1),

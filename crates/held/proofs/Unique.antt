@@ -16,7 +16,7 @@ use Rattle.plan.proofs.Ends.{smallest-least, largest-most}
 use Rattle.plan.proofs.Between.{every-count-occurs}
 use Rattle.plan.proofs.Unique.{short-by-unique, short-or-flow}
 use Rattle.plan.proofs.HeldCounts.{first-with-unique, outside-never}
-use Rattle.stand.proofs.Writing.{alike}
+use Rattle.lists.proofs.Entries.{one-content}
 use Rattle.held.specs.Answer.{number, judged, HeldAnswers}
 use Rattle.held.specs.declared.Answer.{Answer}
 use Rattle.held.specs.declared.Answer.the-variants.{Runs, Short, Outside, Refused}
@@ -35,7 +35,7 @@ module _ (p : Plan) (arc count : ℕ) (arcs : List ℕ) where
       → HeldAnswers p arc count arcs a r → HeldAnswers p arc count arcs a′ r′ → (r ≡ r′) × (a ≡ a′)
   held-answers-unique {a} {a′} Runs Runs x y = (
     refl,
-    alike (p .arcs) arcs a a′ (x .arcs-length) (y .arcs-length)
+    one-content 0 (p .arcs) arcs a a′ (x .arcs-length) (y .arcs-length)
         (first-with-unique p arc count (at a) (at a′) (x .says .1 .first) (y .says .1 .first))
         (x .says .1 .past) (y .says .1 .past),
   )

@@ -13,7 +13,7 @@ use Rattle.plan.specs.declared.Verdict.the-variants.{Accepted}
 use Rattle.plan.proofs.Refusals.{accepted-or-refused}
 use Rattle.plan.proofs.Checked.{accepted-plan}
 use Rattle.plan.proofs.Unique.{narrowed-unique, short-by-unique, short-or-flow}
-use Rattle.stand.proofs.Writing.{alike}
+use Rattle.lists.proofs.Entries.{one-content}
 use Rattle.flow.specs.Answer.{number}
 use Rattle.flow.specs.declared.Answer.{Answer}
 use Rattle.flow.specs.declared.Answer.the-variants.{Runs, Short, Refused}
@@ -28,10 +28,10 @@ module _ (p : Plan) (lows highs : List ℕ) where
       → NarrowAnswers p lows highs l h r → NarrowAnswers p lows highs l′ h′ r′ → (r ≡ r′) × (l ≡ l′) × (h ≡ h′)
   narrow-answers-unique {l} {h} {l′} {h′} Runs Runs x y = (
     refl,
-    alike (p .arcs) lows l l′ (x .lows-length) (y .lows-length)
+    one-content 0 (p .arcs) lows l l′ (x .lows-length) (y .lows-length)
         (λ k lk. narrowed-unique (x .says .1 .narrowed k lk) (y .says .1 .narrowed k lk) .0)
         (x .says .1 .lows-past) (y .says .1 .lows-past),
-    alike (p .arcs) highs h h′ (x .highs-length) (y .highs-length)
+    one-content 0 (p .arcs) highs h h′ (x .highs-length) (y .highs-length)
         (λ k lk. narrowed-unique (x .says .1 .narrowed k lk) (y .says .1 .narrowed k lk) .1)
         (x .says .1 .highs-past) (y .says .1 .highs-past),
   )

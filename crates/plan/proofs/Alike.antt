@@ -1,6 +1,7 @@
--- Two plans of the same size that agree below it on supplies, ends and ranges. What is said of the one holds of the other.
-use Prim.Native.Nat.{ℕ, _<_}
+-- Two plans that agree on all that is below their counts: what is said of the one holds of the other, and they are turned down alike.
+use Prim.Native.Nat.{ℕ, zero, suc, _<_}
 use mathlib.Core.Path.{_≡_, ap, sym, _∙_}
+use mathlib.Core.Bool.{Bool, cond}
 use native.Mathlib.Omega.{arith}
 use lib.IntN.{ℤ}
 use Rattle.numbers.specs.Sums.{only, onlyℤ, sum-in, sumℤ, sum-inℤ}
@@ -8,15 +9,13 @@ use Rattle.numbers.proofs.Sums.{sum-same, sumℤ-same}
 use Rattle.plan.specs.Plan.{Plan, Set, WellFormed}
 use Rattle.plan.specs.Flow.{total, Flow, HasFlow, Occurs, Smallest, Largest}
 use Rattle.plan.specs.Shortage.{leaves, enters, supplies, shortfall, ShortBy}
-use Rattle.plan.specs.Keeping.{SameNetwork}
+use Rattle.plan.specs.Keeping.{SamePlan}
+use Rattle.plan.specs.Verdict.{lowest, verdict, count-rules, limit-rules, end-wrong, range-wrong, supply-wrong, sum-wrong}
+use Rattle.plan.specs.declared.Verdict.{Verdict}
+use Rattle.plan.specs.declared.Verdict.the-variants.{Accepted, Refused}
 use Rattle.plan.proofs.Demand3.{flow-of-the-wider}
 
-pub record Alike (p q : Plan) : Type 0 where
-  pub network : SameNetwork p q
-  pub low : (k : ℕ) → k < p .arcs → p .low k ≡ q .low k
-  pub high : (k : ℕ) → k < p .arcs → p .high k ≡ q .high k
-
-pub alike-back : {p q : Plan} → Alike p q → Alike q p
+pub alike-back : {p q : Plan} → SamePlan p q → SamePlan q p
 alike-back a = record {
   network = record {
     nodes = sym (a .network .nodes);
@@ -31,26 +30,26 @@ alike-back a = record {
 
 -- flows, and the counts that occur in them
 
-pub alike-flow : {p q : Plan} → Alike p q → {f : ℕ → ℕ} → Flow q f → Flow p f
+pub alike-flow : {p q : Plan} → SamePlan p q → {f : ℕ → ℕ} → Flow q f → Flow p f
 alike-flow {p} {q} a {f} =
     flow-of-the-wider p q (a .network)
     (record { low-within = λ k l. omega (arith, a .low k l); high-within = λ k l. omega (arith, a .high k l) }) f
 
-pub alike-has-flow : {p q : Plan} → Alike p q → HasFlow q → HasFlow p
+pub alike-has-flow : {p q : Plan} → SamePlan p q → HasFlow q → HasFlow p
 alike-has-flow a h = record { counts = h .counts; flow = alike-flow a (h .flow) }
 
-pub alike-occurs : {p q : Plan} → Alike p q → {k count : ℕ} → Occurs q k count → Occurs p k count
+pub alike-occurs : {p q : Plan} → SamePlan p q → {k count : ℕ} → Occurs q k count → Occurs p k count
 alike-occurs a o = record { counts = o .counts; flow = alike-flow a (o .flow); there = o .there }
 
-pub alike-smallest : {p q : Plan} → Alike p q → {k count : ℕ} → Smallest q k count → Smallest p k count
+pub alike-smallest : {p q : Plan} → SamePlan p q → {k count : ℕ} → Smallest q k count → Smallest p k count
 alike-smallest a s = record { occurs = alike-occurs a (s .occurs); smallest = λ g c. s .smallest g (alike-flow (alike-back a) c) }
 
-pub alike-largest : {p q : Plan} → Alike p q → {k count : ℕ} → Largest q k count → Largest p k count
+pub alike-largest : {p q : Plan} → SamePlan p q → {k count : ℕ} → Largest q k count → Largest p k count
 alike-largest a s = record { occurs = alike-occurs a (s .occurs); largest = λ g c. s .largest g (alike-flow (alike-back a) c) }
 
 -- shortfalls, and the shortage set
 
-module _ {p q : Plan} (a : Alike p q) where
+module _ {p q : Plan} (a : SamePlan p q) where
   alike-total : (f g : ℕ → ℕ) (A B : Set) → ((k : ℕ) → k < p .arcs → f k ≡ g k) → ((k : ℕ) → k < p .arcs → A k ≡ B k)
       → total p f A ≡ total q g B
   alike-total f g A B same same-set =
@@ -84,7 +83,13 @@ module _ {p q : Plan} (a : Alike p q) where
     positive = s .positive;
   }
 
-pub alike-well-formed : {p q : Plan} → Alike p q → WellFormed q → WellFormed p
+-- well-formed plans, and what turns a plan down
+
+alike-sum : {p q : Plan} → SamePlan p q → sumℤ (p .nodes) (p .supply) ≡ sumℤ (q .nodes) (q .supply)
+alike-sum {p} {q} a =
+    sumℤ-same (p .nodes) (p .supply) (q .supply) (a .network .supply) ∙ ap (λ n. sumℤ n (q .supply)) (a .network .nodes)
+
+pub alike-well-formed : {p q : Plan} → SamePlan p q → WellFormed q → WellFormed p
 alike-well-formed {p} {q} a w = record {
   some-node = omega (arith, a .network .nodes, w .some-node);
   nodes-fit = omega (arith, a .network .nodes, w .nodes-fit);
@@ -94,7 +99,34 @@ alike-well-formed {p} {q} a w = record {
   uncrossed = λ k l. omega (arith, a .low k l, a .high k l, w .uncrossed k (omega (arith, a .network .arcs)));
   high-fits = λ k l. omega (arith, a .high k l, w .high-fits k (omega (arith, a .network .arcs)));
   supply-fits = λ v l. rw (a .network .supply v l) (w .supply-fits v (omega (arith, a .network .nodes)));
-  supplies-even =
-      sumℤ-same (p .nodes) (p .supply) (q .supply) (a .network .supply) ∙ ap (λ n. sumℤ n (q .supply)) (a .network .nodes)
-      ∙ w .supplies-even;
+  supplies-even = alike-sum a ∙ w .supplies-even;
 }
+
+-- a rule that concerns the same places, before the same verdict
+lowest-same : (number : ℕ) (f g : ℕ → Bool) (n : ℕ) {u v : Verdict} → ((i : ℕ) → i < n → f i ≡ g i) → u ≡ v
+    → lowest number f n u ≡ lowest number g n v
+lowest-same number f g zero same e = e
+lowest-same number f g (suc n) {u} {v} same e =
+    lowest-same number f g n (λ i l. same i (omega arith)) (rw (same n (omega arith), e))
+
+pub counts-alike : {p q : Plan} → SamePlan p q → verdict (count-rules p) ≡ verdict (count-rules q)
+counts-alike a = rw (a .network .nodes, a .network .arcs)
+
+pub limits-alike : {p q : Plan} → SamePlan p q → verdict (limit-rules p) ≡ verdict (limit-rules q)
+limits-alike {p} {q} a =
+    lowest-same 4 (end-wrong p) (end-wrong q) (p .arcs) (λ k l. rw (a .network .nodes, a .network .from k l, a .network .to k l))
+    (lowest-same 5 (range-wrong p) (range-wrong q) (p .arcs) (λ k l. rw (a .low k l, a .high k l))
+    (lowest-same 6 (supply-wrong p) (supply-wrong q) (p .nodes) (λ v l. rw (a .network .supply v l))
+    (rw (alike-sum a))
+    ∙ ap (λ n. lowest 6 (supply-wrong q) n (after-supplies q)) (a .network .nodes))
+    ∙ ap (λ n. lowest 5 (range-wrong q) n (after-ranges q)) (a .network .arcs))
+    ∙ ap (λ n. lowest 4 (end-wrong q) n (after-ends q)) (a .network .arcs)
+  where
+    after-supplies : Plan → Verdict
+    after-supplies r = cond (sum-wrong r) (Refused 7 0) Accepted
+
+    after-ranges : Plan → Verdict
+    after-ranges r = lowest 6 (supply-wrong r) (r .nodes) (after-supplies r)
+
+    after-ends : Plan → Verdict
+    after-ends r = lowest 5 (range-wrong r) (r .arcs) (after-ranges r)

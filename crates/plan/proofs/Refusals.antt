@@ -147,10 +147,14 @@ module _ (p : Plan) where
     ),
   )
 
+  -- so the limits alone turn nothing of it down
+  pub well-formed-limits : WellFormed p → verdict (limit-rules p) ≡ Accepted
+  well-formed-limits w = clear-accepted (limit-rules p) (accepted-clear (network-rules p false) (well-formed-accepted w) .1 .1 .1)
+
 -- ---- one number more, after all the others
 
 -- what comes after counts only where nothing was turned down before
-abbrev after : Verdict → Verdict → Verdict
+abbrev pub after : Verdict → Verdict → Verdict
 after Accepted v = v
 after (Refused n i) v = Refused n i
 
@@ -163,7 +167,7 @@ lowest-after number concerns (suc n) u v =
     picked true = refl
     picked false = refl
 
-verdict-after : (rules more : List Rule) → verdict (rules ++ more) ≡ after (verdict rules) (verdict more)
+pub verdict-after : (rules more : List Rule) → verdict (rules ++ more) ≡ after (verdict rules) (verdict more)
 verdict-after [] more = refl
 verdict-after (r ∷ rules) more =
     ap (lowest (r .number) (r .concerns) (r .places)) (verdict-after rules more)

@@ -3,53 +3,24 @@
 // number and the place by which the plan is turned down. Under a plan that runs, the narrowed ranges and a
 // line for each end of each arc: that it stands, or where it moved, by which stations and limits. Then an
 // arc held at some counts. Of a counting plan: the new domains and count ranges; or the shortfall, and what
-// the flow question says of its network. It uses the six requests and the kit's `io`.
+// the flow question says of its network. It uses the six requests and `say`.
 use count::request::count;
 use count::request::count_network;
 use flow::Answer;
 use flow::question::question;
 use held::request::hold;
-use io::print_decimal;
-use libc::STDOUT_FILENO;
 use narrow::request::narrow;
 use plan::Verdict;
 use reason::request::reason;
-
-fn say(text: &[u8]) {
-    io::write_all(STDOUT_FILENO, text);
-}
-
-fn say_number(n: u64) {
-    say(b" ");
-    print_decimal(STDOUT_FILENO, n);
-}
-
-// A shortfall is above 0.
-fn say_shortfall(value: i64) {
-    if 0 <= value {
-        say_number(value as u64);
-    }
-}
 
 // The first m counts.
 fn say_counts(counts: &[u32], m: usize) {
     let mut k = 0;
     while k < m {
         if k < counts.len() {
-            say_number(counts[k] as u64);
+            say::number(counts[k] as u64);
         }
         k += 1;
-    }
-}
-
-// The nodes that are marked 1.
-fn say_set(marks: &[u8]) {
-    let mut v = 0;
-    while v < marks.len() {
-        if marks[v] == 1 {
-            say_number(v as u64);
-        }
-        v += 1;
     }
 }
 
@@ -58,12 +29,12 @@ fn say_cited(marks: &[u32]) {
     let mut k = 0;
     while k < marks.len() {
         if marks[k] == 1 {
-            say_number(k as u64);
-            say(b" low");
+            say::number(k as u64);
+            say::text(b" low");
         }
         if marks[k] == 2 {
-            say_number(k as u64);
-            say(b" high");
+            say::number(k as u64);
+            say::text(b" high");
         }
         k += 1;
     }
@@ -71,22 +42,20 @@ fn say_cited(marks: &[u32]) {
 
 // The marks of a shortage or of a reason.
 fn say_marks(nodes: &[u8], arcs: &[u32]) {
-    say(b", in");
-    say_set(nodes);
-    say(b", cites");
+    say::text(b", in");
+    say::set(nodes);
+    say::text(b", cites");
     say_cited(arcs);
 }
 
 fn say_none(value: i64) {
-    say(b" none");
-    say_shortfall(value);
+    say::text(b" none");
+    say::shortfall(value);
 }
 
 fn say_refused(number: u32, index: usize) {
-    say(b" refused");
-    say_number(number as u64);
-    say(b" at");
-    say_number(index as u64);
+    say::text(b" ");
+    say::refused(number, index);
 }
 
 fn show_flow(arcs: &[u32], supplies: &[i32]) {
@@ -94,7 +63,7 @@ fn show_flow(arcs: &[u32], supplies: &[i32]) {
     let mut node_buffer = [0u8; 6];
     match question(arcs, supplies, &mut arc_buffer, &mut node_buffer) {
         Answer::Runs => {
-            say(b" runs");
+            say::text(b" runs");
             say_counts(&arc_buffer, arcs.len() / 4);
         }
         Answer::Short(value) => {
@@ -103,7 +72,7 @@ fn show_flow(arcs: &[u32], supplies: &[i32]) {
         }
         Answer::Refused(number, index) => say_refused(number, index),
     }
-    say(b"\n");
+    say::text(b"\n");
 }
 
 fn show_ranges(arcs: &[u32], supplies: &[i32]) {
@@ -111,54 +80,54 @@ fn show_ranges(arcs: &[u32], supplies: &[i32]) {
     let mut highs = [0u32; 4];
     match narrow(arcs, supplies, &mut lows, &mut highs) {
         Answer::Runs => {
-            say(b"  from");
+            say::text(b"  from");
             say_counts(&lows, arcs.len() / 4);
-            say(b" to");
+            say::text(b" to");
             say_counts(&highs, arcs.len() / 4);
         }
         Answer::Short(value) => say_none(value),
         Answer::Refused(number, index) => say_refused(number, index),
     }
-    say(b"\n");
+    say::text(b"\n");
 }
 
 // One end of one arc: 0 the low end, 1 the high end.
 fn show_end(arcs: &[u32], supplies: &[i32], arc: u32, end: u32) {
     let mut arc_buffer = [0u32; 4];
     let mut node_buffer = [0u8; 4];
-    say(b"  arc");
-    say_number(arc as u64);
-    say(b" end");
-    say_number(end as u64);
+    say::text(b"  arc");
+    say::number(arc as u64);
+    say::text(b" end");
+    say::number(end as u64);
     match reason(arcs, supplies, arc, end, &mut arc_buffer, &mut node_buffer) {
-        reason::Answer::Stands => say(b" stands"),
+        reason::Answer::Stands => say::text(b" stands"),
         reason::Answer::Moved(value) => {
-            say(b" moved to");
-            say_number(value as u64);
+            say::text(b" moved to");
+            say::number(value as u64);
             say_marks(&node_buffer, &arc_buffer);
         }
         reason::Answer::Short(value) => say_none(value),
         reason::Answer::Refused(number, index) => say_refused(number, index),
     }
-    say(b"\n");
+    say::text(b"\n");
 }
 
 fn show_held(arcs: &[u32], supplies: &[i32], arc: u32, count: u32) {
     let mut arc_buffer = [0u32; 4];
-    say(b"  arc");
-    say_number(arc as u64);
-    say(b" at");
-    say_number(count as u64);
+    say::text(b"  arc");
+    say::number(arc as u64);
+    say::text(b" at");
+    say::number(count as u64);
     match hold(arcs, supplies, arc, count, &mut arc_buffer) {
         held::Answer::Runs => {
-            say(b" runs");
+            say::text(b" runs");
             say_counts(&arc_buffer, arcs.len() / 4);
         }
         held::Answer::Short(value) => say_none(value),
-        held::Answer::Outside => say(b" outside"),
+        held::Answer::Outside => say::text(b" outside"),
         held::Answer::Refused(number, index) => say_refused(number, index),
     }
-    say(b"\n");
+    say::text(b"\n");
 }
 
 // A plan of m arcs that runs: its ranges, and why each end of each arc lies where it does.
@@ -173,13 +142,13 @@ fn show_ends(arcs: &[u32], supplies: &[i32], m: u32) {
 }
 
 fn show(name: &[u8], arcs: &[u32], supplies: &[i32], m: u32) {
-    say(name);
+    say::text(name);
     show_flow(arcs, supplies);
     show_ends(arcs, supplies, m);
 }
 
 fn refuse(name: &[u8], arcs: &[u32], supplies: &[i32]) {
-    say(name);
+    say::text(name);
     show_flow(arcs, supplies);
 }
 
@@ -211,15 +180,15 @@ fn say_domain(word: u64) {
     let mut j = 0;
     while j < 64 {
         if (word >> j) % 2 == 1 {
-            say_number(j);
+            say::number(j);
         }
         j += 1;
     }
-    say(b";");
+    say::text(b";");
 }
 
 fn say_domains(words: &[u64]) {
-    say(b" domains");
+    say::text(b" domains");
     let mut i = 0;
     while i < words.len() {
         say_domain(words[i]);
@@ -235,15 +204,15 @@ fn show_counting(domains: &[u64], counts: &[u32]) {
     match count(domains, counts, &mut words, &mut lows, &mut highs) {
         Answer::Runs => {
             say_domains(&words);
-            say(b" counts from");
+            say::text(b" counts from");
             say_counts(&lows, 4);
-            say(b" to");
+            say::text(b" to");
             say_counts(&highs, 4);
         }
         Answer::Short(value) => say_none(value),
         Answer::Refused(number, index) => say_refused(number, index),
     }
-    say(b"\n");
+    say::text(b"\n");
 }
 
 // A counting plan, and its network asked the flow question; the lists are as long as the network.
@@ -252,16 +221,16 @@ fn show_network(domains: &[u64], counts: &[u32], supplies: &mut [i32], arcs: &mu
     if let Verdict::Refused(number, index) = count_network(domains, counts, supplies, arcs) {
         say_refused(number, index);
     }
-    say(b"  network");
+    say::text(b"  network");
     show_flow(arcs, supplies);
 }
 
 fn show_fourth() {
-    say(b"P10");
+    say::text(b"P10");
     show_counting(&[10, 10, 3, 13], &[0, 1, 0, 1, 0, 1, 0, 1]);
-    say(b"P11");
+    say::text(b"P11");
     show_network(&[3, 3, 3], &[0, 1, 0, 1], &mut [0i32; 6], &mut [0u32; 32]);
-    say(b"P12");
+    say::text(b"P12");
     show_network(&[0], &[0, 1], &mut [0i32; 3], &mut [0u32; 8]);
 }
 

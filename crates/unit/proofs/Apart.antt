@@ -24,8 +24,8 @@ use Rattle.arcs.specs.Taken.{flattened, cut-at, taken-apart, OfArcs}
 use Rattle.arcs.specs.declared.Arc.{Arc}
 use Rattle.arcs.proofs.Taking.{taken-length}
 use Rattle.arcs.proofs.Flat.{flattened-length, taken-flat}
-use Rattle.unit.specs.declared.answer.Answer.{Answer}
-use Rattle.unit.specs.Crossing.{Reading, Crosses}
+use Rattle.crossing.specs.declared.answer.Answer.{Answer}
+use Rattle.crossing.specs.Crossing.{Reading, Crosses}
 
 -- ---- too many arcs
 

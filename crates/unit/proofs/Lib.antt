@@ -1,3 +1,4 @@
 pub mod Places
+pub mod FilePlaces
 pub mod Unique
 pub mod Apart

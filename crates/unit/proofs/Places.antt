@@ -1,5 +1,5 @@
 -- The place of a refusal is small: the rules look at few places each, or one before them turns the input down.
-use Prim.Native.Nat.{ℕ, zero, suc, _≤_, _<_}
+use Prim.Native.Nat.{ℕ, zero, suc, _+_, _≤_, _<_}
 use mathlib.Core.Path.{_≡_, refl}
 use mathlib.Core.Bool.{Bool, true, false, cond}
 use mathlib.Core.List.{List, [], _∷_, _++_}
@@ -7,6 +7,7 @@ use mathlib.Core.Logic.{⊎-elim}
 use native.Mathlib.Omega.{arith}
 use native.Mathlib.Nat.{eq-or-lt-of-le, le-of-suc-le-suc}
 use lib.Dec.{leb, ltb, eqb}
+use lib.IntN.{ℤ}
 use lib.ListN.{length}
 use borrow.Author.Tests.{ltb-false}
 use Rattle.plan.specs.Limits.{most-nodes, most-arcs}
@@ -28,6 +29,9 @@ use Rattle.held.specs.Answer as held
 use Rattle.held.specs.Answer.{HeldAnswers}
 use Rattle.held.specs.declared.Answer as held-declared
 use Rattle.held.specs.declared.Answer.the-variants as held-variants
+use Rattle.count.specs.Counting.{Counting, counting-of}
+use Rattle.count.specs.Answer.{Buffers, CountAnswers, NetworkAnswers, buffers-short, network-short, counting-rules, counting-verdict}
+use Rattle.crossing.specs.Crossing.{verdict-place}
 
 -- a verdict's place, if it has one, is below the most arcs that a plan can have
 abbrev pub Small : Verdict → Type 0
@@ -78,9 +82,18 @@ pub asking-small : (p : Plan) (short missing : Bool) → Small (verdict (asking-
 asking-small p short missing =
     verdict-small (asking-rules p short missing) (network-few p short (whole 8 missing ∷ []) (omega arith, λ _. tt))
 
+-- the rules of a counting plan look at its variables and values only where 15 found few of them
+pub counting-small : (domains : List ℕ) (c : Counting) (short : Bool) → Small (counting-verdict domains c short)
+counting-small domains c short = verdict-small (counting-rules domains c ++ (whole 3 short ∷ [])) (
+  omega arith,
+  λ nodes.
+      let few-nodes = ltb-false most-nodes (c .variables + c .values + 1) (nodes 0 (omega arith)) in
+      (omega arith, λ _. (omega arith, λ _. (omega arith, λ _. (omega arith, λ _. tt)))),
+)
+
 -- ---- so the place of each request's answer is small
 
-small-place : {v : Verdict} {n i : ℕ} → Small v → v ≡ Refused n i → i < most-arcs
+pub small-place : {v : Verdict} {n i : ℕ} → Small v → v ≡ Refused n i → i < most-arcs
 small-place small e = rw e at small
 
 pub flow-place : {p : Plan} {arcs nodes a n : List ℕ} (r : flow-declared.Answer) → FlowAnswers p arcs nodes a n r → flow.place r < most-arcs
@@ -110,3 +123,16 @@ held-place (held-variants.Short v) x = omega arith
 held-place held-variants.Outside x = omega arith
 held-place {p} {arc} {arcs = arcs} (held-variants.Refused m i) x =
     small-place (asking-small p (ltb (length arcs) (p .arcs)) (leb (p .arcs) arc)) (x .says .0)
+
+pub count-place : {domains counts : List ℕ} {b b′ : Buffers} (r : flow-declared.Answer)
+    → CountAnswers domains counts b b′ r → flow.place r < most-arcs
+count-place flow-variants.Runs x = omega arith
+count-place (flow-variants.Short v) x = omega arith
+count-place {domains} {counts} {b} (flow-variants.Refused m i) x =
+    small-place (counting-small domains (counting-of domains counts) (buffers-short (counting-of domains counts) b)) (x .says .0)
+
+pub count-network-place : {domains counts : List ℕ} {supplies s : List ℤ} {arcs a : List ℕ} (r : Verdict)
+    → NetworkAnswers domains counts supplies arcs s a r → verdict-place r < most-arcs
+count-network-place Accepted x = omega arith
+count-network-place {domains} {counts} {supplies} {s} {arcs} (Refused m i) x =
+    small-place (counting-small domains (counting-of domains counts) (network-short (counting-of domains counts) supplies arcs)) (x .answer-is)

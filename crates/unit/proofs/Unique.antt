@@ -3,6 +3,7 @@
 use Prim.Native.Nat.{ℕ}
 use mathlib.Core.Path.{_≡_, ap, sym, _∙_}
 use mathlib.Core.List.{List}
+use lib.IntN.{ℤ}
 use Rattle.plan.specs.Plan.{Plan}
 use Rattle.flow.specs.Answer.{FlowAnswers}
 use Rattle.flow.proofs.Unique.{flow-answers-unique}
@@ -12,8 +13,14 @@ use Rattle.reason.specs.Answer.{ReasonAnswers}
 use Rattle.reason.proofs.Unique.{reason-answers-unique}
 use Rattle.held.specs.Answer.{HeldAnswers}
 use Rattle.held.proofs.Unique.{held-answers-unique}
-use Rattle.unit.specs.declared.answer.Answer.{Answer}
-use Rattle.unit.specs.Crossing.{Reading, Crosses, crossing, flow-reading, reason-reading, held-reading}
+use Rattle.count.specs.Answer.{Buffers, CountAnswers, NetworkAnswers}
+use Rattle.count.proofs.Unique.{count-answers-unique, network-answers-unique}
+use Rattle.blocks.specs.Format.{Edition}
+use Rattle.file.specs.Answer.{ReadAnswers, WriteAnswers}
+use Rattle.file.proofs.Unique.{read-answers-unique, write-answers-unique}
+use Rattle.crossing.specs.Payload.{PayloadAnswers}
+use Rattle.crossing.specs.declared.answer.Answer.{Answer}
+use Rattle.crossing.specs.Crossing.{Reading, Crosses, crossing, flow-reading, reason-reading, held-reading, verdict-reading, read-reading, written-reading, payload-reading}
 
 -- what two promises say that admit one answer between them, they say of what crosses
 pub crosses-unique : {A Same : Type 0} {reading : Reading A} {P Q : A → Type 0} {r r′ : Answer}
@@ -25,6 +32,8 @@ crosses-unique {reading = reading} unique x y =
 -- the answer, and the two buffers together
 paired : {A B C : Type 0} → A × B × C → A × (B × C)
 paired (a, b, c) = (a, (b, c))
+
+-- ---- networks
 
 module _ (p : Plan) where
   pub flow-crosses-unique : (arcs nodes : List ℕ) {a n a′ n′ : List ℕ} {r r′ : Answer}
@@ -46,3 +55,33 @@ module _ (p : Plan) where
       → Crosses held-reading (HeldAnswers p arc count arcs a) r → Crosses held-reading (HeldAnswers p arc count arcs a′) r′
       → (r ≡ r′) × (a ≡ a′)
   held-crosses-unique arc count arcs = crosses-unique (held-answers-unique p arc count arcs)
+
+-- ---- counting plans
+
+module _ (domains counts : List ℕ) where
+  pub count-crosses-unique : (b : Buffers) {x y : Buffers} {r r′ : Answer}
+      → Crosses flow-reading (CountAnswers domains counts b x) r → Crosses flow-reading (CountAnswers domains counts b y) r′ → (r ≡ r′) × (x ≡ y)
+  count-crosses-unique b = crosses-unique (count-answers-unique domains counts b)
+
+  pub count-network-crosses-unique : (supplies : List ℤ) (arcs : List ℕ) {s s′ : List ℤ} {a a′ : List ℕ} {r r′ : Answer}
+      → Crosses verdict-reading (NetworkAnswers domains counts supplies arcs s a) r
+      → Crosses verdict-reading (NetworkAnswers domains counts supplies arcs s′ a′) r′ → (r ≡ r′) × ((s ≡ s′) × (a ≡ a′))
+  count-network-crosses-unique supplies arcs = crosses-unique (λ r s x y. paired (network-answers-unique domains counts supplies arcs x y))
+
+-- ---- plan files
+
+module _ (e : Edition) where
+  pub read-crosses-unique : (file : List ℕ) (supplies : List ℤ) (arcs : List ℕ) {s s′ : List ℤ} {a a′ : List ℕ} {r r′ : Answer}
+      → Crosses read-reading (ReadAnswers e file supplies s arcs a) r
+      → Crosses read-reading (ReadAnswers e file supplies s′ arcs a′) r′ → (r ≡ r′) × ((s ≡ s′) × (a ≡ a′))
+  read-crosses-unique file supplies arcs = crosses-unique (λ r s x y. paired (read-answers-unique e file supplies arcs r s x y))
+
+  pub write-crosses-unique : (p : Plan) (file : List ℕ) {f f′ : List ℕ} {r r′ : Answer}
+      → Crosses written-reading (WriteAnswers e p file f) r → Crosses written-reading (WriteAnswers e p file f′) r′ → (r ≡ r′) × (f ≡ f′)
+  write-crosses-unique p file = crosses-unique (write-answers-unique e p file)
+
+  -- nothing is lent for writing
+  pub payload-crosses-unique : (file : List ℕ) (block : ℕ) {r r′ : Answer}
+      → Crosses payload-reading (PayloadAnswers e file block) r → Crosses payload-reading (PayloadAnswers e file block) r′ → r ≡ r′
+  payload-crosses-unique file block x y =
+      crosses-unique {Same = Unit {0}} (λ r s a b. (a .part-is ∙ sym (b .part-is), tt)) x y .0

@@ -1,12 +1,12 @@
 // The requests over a flat list of arcs, as C calls them. Each answers every input; what it leaves in the
 // lent buffers is what the request itself leaves.
-use crate::answer::Answer;
+use crossing::answer::Answer;
 ghost use Rattle.plan.specs.Plan.{plan-of};
 ghost use Rattle.flow.specs.Answer.{FlowAnswers};
 ghost use Rattle.narrow.specs.Answer.{NarrowAnswers};
 ghost use Rattle.reason.specs.Answer.{ReasonAnswers};
 ghost use Rattle.held.specs.Answer.{HeldAnswers};
-ghost use Rattle.unit.specs.Crossing.{Crosses, flow-reading, reason-reading, held-reading};
+ghost use Rattle.crossing.specs.Crossing.{Crosses, flow-reading, reason-reading, held-reading};
 
 // The flow question. Number 0: the arc buffer has the first flow. Number 9: value lacks, and the buffers
 // have the marks. Any other number: the input is turned down at index, and the buffers stay.

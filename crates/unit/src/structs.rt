@@ -1,16 +1,16 @@
 // The requests over a lent list of arc structs, as C calls them: each takes the list apart and asks the
 // request over the flat list. The answers and the promises are the same.
-use crate::answer::Answer;
 use crate::requests::blenrop_flow;
 use crate::requests::blenrop_narrow;
 use arcs::Arc;
 use arcs::in_use;
 use arcs::take_apart;
+use crossing::answer::Answer;
 ghost use Rattle.plan.specs.Plan.{plan-of};
 ghost use Rattle.flow.specs.Answer.{FlowAnswers};
 ghost use Rattle.narrow.specs.Answer.{NarrowAnswers};
 ghost use Rattle.arcs.specs.Taken.{flattened, OfArcs};
-ghost use Rattle.unit.specs.Crossing.{Crosses, flow-reading};
+ghost use Rattle.crossing.specs.Crossing.{Crosses, flow-reading};
 
 // The flow question about the first numbers of a list that was taken apart from `count` arcs.
 fn flow_over(

@@ -44,21 +44,18 @@ pub fn flow(run: &mut Run, network: &Network, rooms: [usize; 2]) {
     two_buffers(run, &requests::FLOW, entry, network.arc_list(), network.plan(), rooms, second);
 }
 
-#[cfg(have_arc_structs)]
 pub fn flow_arcs(run: &mut Run, network: &Network, rooms: [usize; 2]) {
     let second = network.questions.flow(rooms[0], rooms[1]);
     let entry = boundary::blenrop_flow_arcs as TwoBuffers<reference::plan::Arc, u8>;
     two_buffers(run, &requests::FLOW_ARCS, entry, &network.plan().arcs, network.plan(), rooms, second);
 }
 
-#[cfg(have_narrow)]
 pub fn narrow(run: &mut Run, network: &Network, rooms: [usize; 2]) {
     let second = network.questions.narrow(rooms[0], rooms[1]);
     let entry = boundary::blenrop_narrow as TwoBuffers<u32, u32>;
     two_buffers(run, &requests::NARROW, entry, network.arc_list(), network.plan(), rooms, second);
 }
 
-#[cfg(have_arc_structs)]
 pub fn narrow_arcs(run: &mut Run, network: &Network, rooms: [usize; 2]) {
     let second = network.questions.narrow(rooms[0], rooms[1]);
     let entry = boundary::blenrop_narrow_arcs as TwoBuffers<reference::plan::Arc, u32>;
@@ -93,7 +90,6 @@ fn two_buffers<T: Entry, Second: Entry>(
     run.judge(request, &[], unit, second.0, &mut [&mut arcs, &mut supplies, &mut one, &mut two]);
 }
 
-#[cfg(have_narrow)]
 pub fn reason(run: &mut Run, network: &Network, arc: u32, end: u32, rooms: [usize; 2]) {
     let (second, marked_arcs, marked_nodes) = network.questions.reason(arc, end, rooms[0], rooms[1]);
     let mut arcs = run.list("arcs", network.arc_list());
@@ -123,7 +119,6 @@ pub fn reason(run: &mut Run, network: &Network, arc: u32, end: u32, rooms: [usiz
     );
 }
 
-#[cfg(have_narrow)]
 pub fn held(run: &mut Run, network: &Network, arc: u32, count: u32, room: usize) {
     let (second, counts) = network.questions.held(arc, count, room);
     let mut arcs = run.list("arcs", network.arc_list());

@@ -2,7 +2,6 @@
 
 use reference::plan::{Arc, Plan, MOST_ARCS, MOST_NODES};
 
-#[cfg(have_file)]
 use super::files;
 use crate::ask::network as ask;
 use crate::ask::network::Network;
@@ -54,20 +53,14 @@ pub fn everything(run: &mut Run, network: &Network, asked: usize) {
     let rooms = |run: &mut Run, second| [run.length_for(arcs), run.length_for(second)];
     let (flow_rooms, narrow_rooms) = (rooms(run, nodes), rooms(run, arcs));
     ask::flow(run, network, flow_rooms);
-    #[cfg(have_narrow)]
     ask::narrow(run, network, narrow_rooms);
-    #[cfg(have_arc_structs)]
     ask::flow_arcs(run, network, flow_rooms);
-    #[cfg(have_arc_structs)]
     ask::narrow_arcs(run, network, narrow_rooms);
-    #[cfg(have_narrow)]
     about_arcs(run, network, asked);
-    #[cfg(have_file)]
     files::of_network(run, network);
 }
 
 /// Both ends and two counts of some arcs, then what does not exist.
-#[cfg(have_narrow)]
 fn about_arcs(run: &mut Run, network: &Network, asked: usize) {
     for arc in arcs_to_ask(run, network, asked) {
         reason(run, network, arc as u32, 0);
@@ -84,7 +77,6 @@ fn about_arcs(run: &mut Run, network: &Network, asked: usize) {
 }
 
 /// Some arcs in a row, and some with an end that moved: in large plans there are few of these.
-#[cfg(have_narrow)]
 fn arcs_to_ask(run: &mut Run, network: &Network, asked: usize) -> Vec<usize> {
     let arcs = &network.plan().arcs;
     let first = run.random.below(arcs.len().max(1));
@@ -96,14 +88,12 @@ fn arcs_to_ask(run: &mut Run, network: &Network, asked: usize) -> Vec<usize> {
     in_a_row.chain(some_moved).collect()
 }
 
-#[cfg(have_narrow)]
 fn reason(run: &mut Run, network: &Network, arc: u32, end: u32) {
     let rooms = [run.length_for(network.plan().arcs.len()), run.length_for(network.plan().nodes())];
     ask::reason(run, network, arc, end, rooms);
 }
 
 /// Two counts: near the ends of the arc's own range or of the narrowed one, or anything.
-#[cfg(have_narrow)]
 fn hold(run: &mut Run, network: &Network, arc: usize) {
     let own = network.plan().arcs[arc];
     let (low, high) = network.questions.ranges().get(arc).copied().unwrap_or((own.low, own.high));

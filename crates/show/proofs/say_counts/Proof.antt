@@ -14,17 +14,17 @@ abbrev μ-loop : tie.MeasureT-loop
 loop-holds : tie.Need-loop-holds Inv-loop μ-loop
 loop-holds c = search needs
 
-mul-say-number : tie.Need-mul-say-number Inv-loop μ-loop
-mul-say-number c = search needs
+mul-number : tie.Need-mul-number Inv-loop μ-loop
+mul-number c = search needs
 
-shared-slice-read-say-number : tie.Need-shared-slice-read-say-number Inv-loop μ-loop
-shared-slice-read-say-number c = search needs
+shared-slice-read-number : tie.Need-shared-slice-read-number Inv-loop μ-loop
+shared-slice-read-number c = search needs
 
-cast-say-number : tie.Need-cast-say-number Inv-loop μ-loop
-cast-say-number c = record { fits = omega (arith, c .shared-slice-known2 .given (c .before .before .before .loop .k)) }
+cast-number : tie.Need-cast-number Inv-loop μ-loop
+cast-number c = record { fits = omega (arith, c .shared-slice-known2 .given (c .before .before .before .loop .k)) }
 
-say-number-requires : tie.Need-say-number-requires Inv-loop μ-loop
-say-number-requires c κs = search needs
+number-requires : tie.Need-number-requires Inv-loop μ-loop
+number-requires c κs = search needs
 
 add-k : tie.Need-add-k Inv-loop μ-loop
 add-k c = search needs
@@ -45,10 +45,10 @@ say-counts-spec =
     Inv-loop
     μ-loop
     loop-holds
-    mul-say-number
-    shared-slice-read-say-number
-    cast-say-number
-    say-number-requires
+    mul-number
+    shared-slice-read-number
+    cast-number
+    number-requires
     add-k
     loop-less
     loop-again

@@ -11,11 +11,11 @@ Inv-loop words i₀ i = i ≤ length words
 abbrev μ-loop : tie.MeasureT-loop
 μ-loop words i₀ i = length words - i
 
-slice-aggregate-say : tie.Need-slice-aggregate-say Inv-loop μ-loop
-slice-aggregate-say c = search needs
+slice-aggregate-text : tie.Need-slice-aggregate-text Inv-loop μ-loop
+slice-aggregate-text c = search needs
 
-say-requires : tie.Need-say-requires Inv-loop μ-loop
-say-requires c κs = search needs
+text-requires : tie.Need-text-requires Inv-loop μ-loop
+text-requires c κs = search needs
 
 loop-holds : tie.Need-loop-holds Inv-loop μ-loop
 loop-holds c = search needs
@@ -47,8 +47,8 @@ say-domains-spec =
     (tie.spec
     Inv-loop
     μ-loop
-    slice-aggregate-say
-    say-requires
+    slice-aggregate-text
+    text-requires
     loop-holds
     mul-say-domain
     shared-slice-read-say-domain

@@ -1,9 +1,7 @@
 //! The plans that document 01 works by hand. What the document says of them stands here in its words,
 //! as constants: the second program must say the same, and then the unit is asked.
 
-#[cfg(have_count)]
 mod countings;
-#[cfg(have_file)]
 mod files;
 mod networks;
 mod says;
@@ -14,9 +12,7 @@ use crate::run::Run;
 
 pub fn all(run: &mut Run) {
     networks::all(run);
-    #[cfg(have_count)]
     countings::all(run);
-    #[cfg(have_file)]
     files::all(run);
 }
 

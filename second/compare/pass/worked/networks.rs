@@ -50,13 +50,9 @@ pub fn all(run: &mut Run) {
 pub fn with_fitting_buffers(run: &mut Run, network: &Network) {
     let (nodes, arcs) = (network.plan().nodes(), network.plan().arcs.len());
     ask::flow(run, network, [arcs, nodes]);
-    #[cfg(have_narrow)]
     ask::narrow(run, network, [arcs, arcs]);
-    #[cfg(have_arc_structs)]
     ask::flow_arcs(run, network, [arcs, nodes]);
-    #[cfg(have_arc_structs)]
     ask::narrow_arcs(run, network, [arcs, arcs]);
-    #[cfg(have_narrow)]
     for (arc, &(low, high)) in (0..ARCS_ASKED as u32).zip(network.questions.ranges()) {
         ask::reason(run, network, arc, LOW, [arcs, nodes]);
         ask::reason(run, network, arc, HIGH, [arcs, nodes]);

@@ -6,9 +6,10 @@ use lib.ListN.{length}
 use native.Mathlib.Omega.{arith}
 use Rattle.count.specs.Counting.{counting-of}
 use Rattle.count.specs.Network.{network}
-use Rattle.count.specs.Drawn.{ArcsDrawn}
+use Rattle.lists.specs.Written.{ArcsWritten}
+use Rattle.lists.proofs.Arcs.{arcs-on}
 use native.Mathlib.Nat.{add-zero}
-use Rattle.count.proofs.Drawing.{drawn-on, end-arc-is}
+use Rattle.count.proofs.Drawing.{end-arc-is}
 use borrow.Author.Needs.{needs}
 use Rattle.count.proofs.draw.draw_counts.Statement.{statement}
 use Rattle.count.proofs.draw.draw_counts.Tie as tie
@@ -16,8 +17,8 @@ use Rattle.count.proofs.draw.draw_counts.Tie as tie
 abbrev Inv-loop : tie.InvT-loop
 Inv-loop domains counts w arcs₀ v j₀ arcs j =
     (j ≤ w) × (length arcs ≡ length arcs₀)
-    × ((before : List ℕ) → ArcsDrawn (network (counting-of domains counts)) (length domains * w) before arcs₀
-    → ArcsDrawn (network (counting-of domains counts)) (length domains * w + j) before arcs)
+    × ((before : List ℕ) → ArcsWritten (network (counting-of domains counts)) (length domains * w) before arcs₀
+    → ArcsWritten (network (counting-of domains counts)) (length domains * w + j) before arcs)
 
 abbrev μ-loop : tie.MeasureT-loop
 μ-loop domains counts w arcs₀ v j₀ arcs j = w - j
@@ -58,9 +59,8 @@ loop-again c =
     let next : pairs + (j + 1) ≡ pairs + j + 1 = omega arith in (
       omega arith,
       c .before .before .write-arc .kept .0 ∙ inv .1,
-      λ before drawn. rw next (drawn-on (c .before .before .write-arc .kept .0) (c .before .before .write-arc .ensures)
-          (rw (c .before .before .before .count-arc .ensures) (arc .from-is)) (rw (c .before .before .before .count-arc .ensures) (arc .to-is))
-          (rw (c .before .before .before .count-arc .ensures) (arc .low-is)) (rw (c .before .before .before .count-arc .ensures) (arc .high-is)) (inv .2 before drawn)),
+      λ before drawn. rw next (arcs-on (c .before .before .write-arc .kept .0) (c .before .before .write-arc .ensures)
+          (rw (c .before .before .before .count-arc .ensures) arc) (inv .2 before drawn)),
     )
 
 same-length : tie.Need-same-length Inv-loop μ-loop

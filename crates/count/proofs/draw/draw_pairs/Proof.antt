@@ -5,15 +5,15 @@ use lib.ListN.{length}
 use native.Mathlib.Omega.{arith}
 use Rattle.count.specs.Counting.{counting-of}
 use Rattle.count.specs.Network.{network}
-use Rattle.count.specs.Drawn.{ArcsDrawn}
-use Rattle.count.proofs.Drawing.{drawn-none}
+use Rattle.lists.specs.Written.{ArcsWritten}
+use Rattle.lists.proofs.Arcs.{arcs-none}
 use borrow.Author.Needs.{needs}
 use Rattle.count.proofs.draw.draw_pairs.Statement.{statement}
 use Rattle.count.proofs.draw.draw_pairs.Tie as tie
 
 abbrev Inv-loop : tie.InvT-loop
 Inv-loop domains counts w arcs₀ i₀ arcs i =
-    (i ≤ length domains) × (length arcs ≡ length arcs₀) × ArcsDrawn (network (counting-of domains counts)) (i * w) arcs₀ arcs
+    (i ≤ length domains) × (length arcs ≡ length arcs₀) × ArcsWritten (network (counting-of domains counts)) (i * w) arcs₀ arcs
 
 abbrev μ-loop : tie.MeasureT-loop
 μ-loop domains counts w arcs₀ i₀ arcs i = length domains - i
@@ -21,7 +21,7 @@ abbrev μ-loop : tie.MeasureT-loop
 loop-holds : tie.Need-loop-holds Inv-loop μ-loop
 loop-holds c =
     let none : 0 * c .before .before .before .args .w ≡ 0 = omega arith in
-    (omega arith, refl, rw none (drawn-none (network (counting-of (c .before .before .before .args .domains .now) (c .before .before .before .args .counts .now)))))
+    (omega arith, refl, rw none (arcs-none (network (counting-of (c .before .before .before .args .domains .now) (c .before .before .before .args .counts .now)))))
 
 draw-row-requires : tie.Need-draw-row-requires Inv-loop μ-loop
 draw-row-requires c κs = (c .before .before .before .before .before .before .pre .0, (c .before .loop-test .taken, omega (arith, c .before .before .before .before .before .before .pre .1, c .before .before .loop .inv .1)))

@@ -7,8 +7,8 @@ use mir.Facts.{toZ-ofZ}
 use mir.Syntax.{w32}
 use Rattle.count.specs.Counting.{Counting}
 use Rattle.count.specs.Network.{network}
-use Rattle.count.specs.Drawn.{SuppliesDrawn}
-use Rattle.count.proofs.Drawing.{supplies-none, supplies-on}
+use Rattle.lists.specs.Written.{SuppliesWritten}
+use Rattle.lists.proofs.Entries.{entries-none, entries-on}
 use borrow.Author.Needs.{needs}
 use Rattle.count.proofs.draw.draw_supplies.Statement.{statement}
 use Rattle.count.proofs.draw.draw_supplies.Tie as tie
@@ -16,13 +16,13 @@ use Rattle.count.proofs.draw.draw_supplies.Tie as tie
 abbrev Inv-loop : tie.InvT-loop
 Inv-loop v w supplies₀ u₀ supplies u =
     (u ≤ v + w + 1) × (length supplies ≡ length supplies₀)
-    × ((c : Counting) → c .variables ≡ v → c .values ≡ w → SuppliesDrawn (network c) u supplies₀ supplies)
+    × ((c : Counting) → c .variables ≡ v → c .values ≡ w → SuppliesWritten (network c) u supplies₀ supplies)
 
 abbrev μ-loop : tie.MeasureT-loop
 μ-loop v w supplies₀ u₀ supplies u = v + w + 1 - u
 
 loop-holds : tie.Need-loop-holds Inv-loop μ-loop
-loop-holds c = (omega arith, refl, λ c′ ev ew. supplies-none (network c′))
+loop-holds c = (omega arith, refl, λ c′ ev ew. entries-none)
 
 add-loop : tie.Need-add-loop Inv-loop μ-loop
 add-loop c = search needs
@@ -48,7 +48,7 @@ loop-again c =
     rw (toZ-ofZ {w = w32} {z = c .supply-of .result} (record { sfits = c .supply-of .ok })) (
       omega arith,
       length-set (c .before .before .loop .supplies) (c .before .before .loop .u) (c .supply-of .result) ∙ inv .1,
-      λ c′ ev ew. supplies-on (omega (arith, inv .1, c .before .before .before .pre .1)) (c .supply-of .ensures ∙ rw (ev, ew)) (inv .2 c′ ev ew),
+      λ c′ ev ew. entries-on (omega (arith, inv .1, c .before .before .before .pre .1)) (c .supply-of .ensures ∙ rw (ev, ew)) (inv .2 c′ ev ew),
     )
 
 same-length : tie.Need-same-length Inv-loop μ-loop

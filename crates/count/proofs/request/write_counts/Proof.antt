@@ -2,20 +2,22 @@
 use Prim.Native.Nat.{_+_, _-_, _≤_}
 use mathlib.Core.Path.{_≡_, refl}
 use Rattle.engine.specs.Room.{at}
-use Rattle.stand.proofs.Writing.{Writing, filled-begins, writing-on, written}
+use Rattle.lists.specs.Written.{EntriesWritten}
+use Rattle.lists.proofs.Entries.{entries-none, entries-on}
+use Rattle.stand.proofs.Writing.{written}
 use borrow.Author.Needs.{needs}
 use native.Mathlib.Omega.{arith}
 use Rattle.count.proofs.request.write_counts.Statement.{statement}
 use Rattle.count.proofs.request.write_counts.Tie as tie
 
 abbrev Inv-loop : tie.InvT-loop
-Inv-loop ends start w counts₀ j₀ counts j = (j ≤ w) × Writing (λ i. at ends (start + i)) j counts₀ counts
+Inv-loop ends start w counts₀ j₀ counts j = (j ≤ w) × EntriesWritten 0 (λ i. at ends (start + i)) j counts₀ counts
 
 abbrev μ-loop : tie.MeasureT-loop
 μ-loop ends start w counts₀ j₀ counts j = w - j
 
 loop-holds : tie.Need-loop-holds Inv-loop μ-loop
-loop-holds c = (omega arith, filled-begins)
+loop-holds c = (omega arith, entries-none)
 
 add-counts : tie.Need-add-counts Inv-loop μ-loop
 add-counts c = search needs
@@ -41,7 +43,7 @@ loop-less c = search needs
 loop-again : tie.Need-loop-again Inv-loop μ-loop
 loop-again c =
     let inv = c .before .before .loop .inv in
-    (omega arith, writing-on (omega (arith, inv .1 .same-length, c .before .before .before .pre .1)) refl (inv .1))
+    (omega arith, entries-on (omega (arith, inv .1 .same-length, c .before .before .before .pre .1)) refl (inv .1))
 
 same-length : tie.Need-same-length Inv-loop μ-loop
 same-length c = c .before .loop .inv .1 .same-length

@@ -1,7 +1,8 @@
 -- The loop writes one word a turn.
 use Prim.Native.Nat.{_*_, _-_, _≤_}
 use mathlib.Core.Path.{_≡_}
-use Rattle.stand.proofs.Writing.{Filled, filled-begins, filled-on}
+use Rattle.lists.specs.Written.{EntriesHold}
+use Rattle.lists.proofs.Entries.{entries-none, entry-holds}
 use Rattle.count.specs.Narrowed.{DomainOf}
 use Rattle.count.proofs.Grid.{row-within}
 use borrow.Author.Needs.{needs}
@@ -10,13 +11,13 @@ use Rattle.count.proofs.request.write_domains.Statement.{statement}
 use Rattle.count.proofs.request.write_domains.Tie as tie
 
 abbrev Inv-loop : tie.InvT-loop
-Inv-loop highs v w domains₀ i₀ domains i = (i ≤ v) × Filled (λ k x. DomainOf highs (k * w) w x) i domains₀ domains
+Inv-loop highs v w domains₀ i₀ domains i = (i ≤ v) × EntriesHold 0 (λ k x. DomainOf highs (k * w) w x) i domains₀ domains
 
 abbrev μ-loop : tie.MeasureT-loop
 μ-loop highs v w domains₀ i₀ domains i = v - i
 
 loop-holds : tie.Need-loop-holds Inv-loop μ-loop
-loop-holds c = (omega arith, filled-begins)
+loop-holds c = (omega arith, entries-none)
 
 mul-domain-of : tie.Need-mul-domain-of Inv-loop μ-loop
 mul-domain-of c = record { fits = omega (arith, row-within (c .before .before .before .before .args .w) (c .loop-test .taken), c .before .before .before .before .pre .0, c .before .before .before .before .good .0) }
@@ -39,7 +40,7 @@ loop-less c = omega arith
 loop-again : tie.Need-loop-again Inv-loop μ-loop
 loop-again c =
     let inv = c .before .before .loop .inv in
-    (omega arith, filled-on (c .domain-of .result) (omega (arith, inv .1 .same-length, c .before .before .before .before .before .pre .2)) (c .domain-of .ensures) (inv .1))
+    (omega arith, entry-holds (c .domain-of .result) (omega (arith, inv .1 .same-length, c .before .before .before .before .before .pre .2)) (c .domain-of .ensures) (inv .1))
 
 same-length : tie.Need-same-length Inv-loop μ-loop
 same-length c = c .before .loop .inv .1 .same-length

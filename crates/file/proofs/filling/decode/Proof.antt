@@ -6,8 +6,9 @@ use mathlib.Core.List.{List}
 use lib.ListN.{length}
 use Rattle.plan.specs.Plan.{Plan}
 use Rattle.blocks.specs.Format.{first-edition}
-use Rattle.file.specs.Filled.{Records, ArcsFilled}
-use Rattle.file.proofs.Fill.{arcs-on}
+use Rattle.lists.specs.Written.{ArcsWritten}
+use Rattle.lists.proofs.Arcs.{arcs-on}
+use Rattle.file.specs.Records.{Records}
 use borrow.Author.Needs.{needs}
 use native.Mathlib.Omega.{arith}
 use Rattle.file.proofs.filling.decode.Statement.{statement}
@@ -16,7 +17,7 @@ use Rattle.file.proofs.filling.decode.Tie as tie
 abbrev Inv-loop : tie.InvT-loop
 Inv-loop payload first count arcs₀ j₀ arcs j =
     (j ≤ count) × (length arcs ≡ length arcs₀)
-    × ((p : Plan) (before : List ℕ) → Records first-edition p first count payload → ArcsFilled p first before arcs₀ → ArcsFilled p (first + j) before arcs)
+    × ((p : Plan) (before : List ℕ) → Records first-edition p first count payload → ArcsWritten p first before arcs₀ → ArcsWritten p (first + j) before arcs)
 
 abbrev μ-loop : tie.MeasureT-loop
 μ-loop payload first count arcs₀ j₀ arcs j = count - j
@@ -53,7 +54,7 @@ loop-again c =
       omega arith,
       c .before .before .write-arc .kept .0 ∙ inv .1,
       λ p before records filled. rw next (arcs-on (c .before .before .write-arc .kept .0) (c .before .before .write-arc .ensures)
-          (rw arc (records .from-is j here)) (rw arc (records .to-is j here)) (rw arc (records .low-is j here)) (rw arc (records .high-is j here)) (inv .2 p before records filled)),
+          (rw arc (record { from-is = records .from-is j here; to-is = records .to-is j here; low-is = records .low-is j here; high-is = records .high-is j here })) (inv .2 p before records filled)),
     )
 
 same-length : tie.Need-same-length Inv-loop μ-loop

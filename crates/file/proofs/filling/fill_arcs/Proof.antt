@@ -4,8 +4,8 @@ use mathlib.Core.Path.{_≡_, refl, _∙_}
 use lib.ListN.{length}
 use Rattle.blocks.specs.Format.{first-edition, arcs-before}
 use Rattle.blocks.specs.Held.{held}
-use Rattle.file.specs.Filled.{ArcsFilled}
-use Rattle.file.proofs.Fill.{arcs-begin}
+use Rattle.lists.specs.Written.{ArcsWritten}
+use Rattle.lists.proofs.Arcs.{arcs-none}
 use borrow.Author.Needs.{needs}
 use native.Mathlib.Omega.{arith}
 use Rattle.file.proofs.filling.fill_arcs.Statement.{statement}
@@ -14,7 +14,7 @@ use Rattle.file.proofs.filling.fill_arcs.Tie as tie
 abbrev Inv-loop : tie.InvT-loop
 Inv-loop file count arcs₀ blocks b₀ arcs b =
     (1 ≤ b) × (b ≤ blocks) × (length arcs ≡ length arcs₀)
-    × ArcsFilled (held first-edition file) (min count (arcs-before first-edition b)) arcs₀ arcs
+    × ArcsWritten (held first-edition file) (min count (arcs-before first-edition b)) arcs₀ arcs
 
 abbrev μ-loop : tie.MeasureT-loop
 μ-loop file count arcs₀ blocks b₀ arcs b = blocks - b
@@ -25,7 +25,7 @@ blocks-of-requires c κs = search needs
 loop-holds : tie.Need-loop-holds Inv-loop μ-loop
 loop-holds c =
     let none : min (c .before .before .before .args .count) 0 ≡ 0 = omega arith in
-    (omega arith, omega (arith, c .blocks-of .ensures), refl, rw none (arcs-begin (held first-edition (c .before .before .before .args .file .now))))
+    (omega arith, omega (arith, c .blocks-of .ensures), refl, rw none (arcs-none (held first-edition (c .before .before .before .args .file .now))))
 
 fill-block-requires : tie.Need-fill-block-requires Inv-loop μ-loop
 fill-block-requires c κs = search needs

@@ -7,21 +7,21 @@ use mathlib.Core.Path.{_≡_, refl, ap, _∙_}
 use lib.ListN.{length, length-set}
 use Rattle.blocks.specs.Format.{first-edition}
 use Rattle.blocks.specs.Held.{held}
-use Rattle.file.specs.Filled.{SuppliesFilled}
-use Rattle.file.proofs.Fill.{supplies-begin, supplies-on}
+use Rattle.lists.specs.Written.{SuppliesWritten}
+use Rattle.lists.proofs.Entries.{entries-none, entries-on}
 use borrow.Author.Needs.{needs}
 use native.Mathlib.Omega.{arith}
 use Rattle.file.proofs.filling.fill_supplies.Statement.{statement}
 use Rattle.file.proofs.filling.fill_supplies.Tie as tie
 
 abbrev Inv-loop : tie.InvT-loop
-Inv-loop file count supplies₀ v₀ supplies v = (v ≤ count) × (length supplies ≡ length supplies₀) × SuppliesFilled (held first-edition file) v supplies₀ supplies
+Inv-loop file count supplies₀ v₀ supplies v = (v ≤ count) × (length supplies ≡ length supplies₀) × SuppliesWritten (held first-edition file) v supplies₀ supplies
 
 abbrev μ-loop : tie.MeasureT-loop
 μ-loop file count supplies₀ v₀ supplies v = count - v
 
 loop-holds : tie.Need-loop-holds Inv-loop μ-loop
-loop-holds c = (omega arith, refl, supplies-begin (held first-edition (c .before .args .file .now)))
+loop-holds c = (omega arith, refl, entries-none)
 
 mul-at : tie.Need-mul-at Inv-loop μ-loop
 mul-at c = search needs
@@ -56,7 +56,7 @@ loop-again c =
     rw (toZ-ofZ {w = w32} {z = c .signed .result} (record { sfits = c .signed .ok })) (
       omega arith,
       length-set (c .before .before .before .loop .supplies) v (c .signed .result) ∙ inv .1,
-      supplies-on (omega (arith, inv .1, c .before .before .before .before .before .pre .1)) (c .signed .ensures ∙ ap signed (c .before .four .ensures ∙ ap (four file) at)) (inv .2),
+      entries-on (omega (arith, inv .1, c .before .before .before .before .before .pre .1)) (c .signed .ensures ∙ ap signed (c .before .four .ensures ∙ ap (four file) at)) (inv .2),
     )
 
 same-length : tie.Need-same-length Inv-loop μ-loop

@@ -1,6 +1,7 @@
 -- An accepted request is for a block that is there; the part from its payload to its check is shown.
-use Prim.Native.Nat.{_+_, _-_, _*_, _<_}
-use mathlib.Core.Path.{_≡_, sym, _∙_}
+use Rattle.file.proofs.Places.{part-long}
+use Prim.Native.Nat.{_<_}
+use mathlib.Core.Path.{sym, _∙_}
 use Rattle.blocks.specs.Format.{first-edition}
 use Rattle.blocks.specs.Rules.{blocks-in}
 use Rattle.blocks.proofs.Order.{payload-there}
@@ -56,10 +57,7 @@ part-result-end-2 : tie.Need-part-result-end-2
 part-result-end-2 c = omega (arith, there c)
 
 returns-2 : tie.Need-returns-2
-returns-2 c =
-    let a = c .before .before .before .before .before .args in
-    let long : a .block * 512 + 510 - (a .block * 512 + 6) ≡ 504 = omega arith in
-    rw (sym (c .before .before .before .payload-number .ensures) ∙ c .before .enum-told .given .1, long)
+returns-2 c = rw (sym (c .before .before .before .payload-number .ensures) ∙ c .before .enum-told .given .1, part-long)
 
 pub payload-spec : {M : Type 1} → statement M
 payload-spec =

@@ -2,9 +2,9 @@
 use Prim.Native.Nat.{_*_}
 use mathlib.Core.Path.{_≡_, sym}
 use lib.Seq.{length-take-le}
+use Rattle.lists.proofs.Same.{written-limits}
 use Rattle.blocks.specs.Format.{first-edition}
 use Rattle.blocks.specs.Held.{held}
-use Rattle.file.proofs.Alike.{filled-limits}
 use native.Mathlib.Omega.{arith}
 use borrow.Author.Needs.{needs}
 use Rattle.file.proofs.reading.check_held_on.Statement.{statement}
@@ -47,8 +47,9 @@ returns c =
     let nodes : a .nodes ≡ p .nodes = c .before .before .before .before .before .before .before .before .before .before .before .before .pre .1 .0 .0 in
     let count : a .count ≡ p .arcs = c .before .before .before .before .before .before .before .before .before .before .before .before .pre .1 .0 .1 in
     let lent = c .before .before .before .before .before .before .before .before .before .before .before .before .pre .1 .1 in
-    filled-limits p (a .supplies .now) (c .before .before .before .before .before .before .before .before .fill-supplies .last .1 .1 .0) (a .arcs .now) (c .before .before .before .before .before .fill-arcs .last .1 .1 .0)
-    (omega (arith, nodes, lent)) (omega (arith, count, lent)) (rw nodes at (c .before .before .before .before .before .before .before .before .fill-supplies .ensures)) (rw count at (c .before .before .before .before .before .fill-arcs .ensures))
+    let supplies = rw nodes at (c .before .before .before .before .before .before .before .before .fill-supplies .ensures) in
+    let arcs = rw count at (c .before .before .before .before .before .fill-arcs .ensures) in
+    written-limits arcs supplies (omega (arith, count, lent, arcs .same-length)) (omega (arith, nodes, lent, supplies .same-length))
     (rw (nodes, count) at (c .check-limits .ensures))
 
 pub check-held-on-spec : {M : Type 1} → statement M

@@ -5,8 +5,8 @@ use lib.ListN.{length}
 use Rattle.plan.specs.Plan.{plan-of}
 use Rattle.blocks.specs.Format.{first-edition, file-byte}
 use Rattle.blocks.specs.Held.{place}
-use Rattle.file.specs.Filled.{BytesFilled}
-use Rattle.file.proofs.Fill.{bytes-begin}
+use Rattle.lists.specs.Written.{EntriesWritten}
+use Rattle.lists.proofs.Entries.{entries-none}
 use borrow.Author.Needs.{needs}
 use native.Mathlib.Omega.{arith}
 use Rattle.file.proofs.writing.write_blocks.Statement.{statement}
@@ -15,13 +15,13 @@ use Rattle.file.proofs.writing.write_blocks.Tie as tie
 abbrev Inv-loop : tie.InvT-loop
 Inv-loop arcs supplies count file₀ b₀ file b =
     (b ≤ count) × (length file ≡ length file₀)
-    × BytesFilled (file-byte first-edition (plan-of arcs supplies)) (place b 0) file₀ file
+    × EntriesWritten 0 (file-byte first-edition (plan-of arcs supplies)) (place b 0) file₀ file
 
 abbrev μ-loop : tie.MeasureT-loop
 μ-loop arcs supplies count file₀ b₀ file b = count - b
 
 loop-holds : tie.Need-loop-holds Inv-loop μ-loop
-loop-holds c = (omega arith, refl, bytes-begin (file-byte first-edition (plan-of (c .before .before .args .arcs .now) (c .before .before .args .supplies .now))))
+loop-holds c = (omega arith, refl, entries-none)
 
 write-body-requires : tie.Need-write-body-requires Inv-loop μ-loop
 write-body-requires c κs = search needs

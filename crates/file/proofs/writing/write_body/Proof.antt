@@ -6,8 +6,8 @@ use lib.ListN.{length, length-set}
 use Rattle.plan.specs.Plan.{plan-of}
 use Rattle.blocks.specs.Format.{first-edition, check-at, file-byte}
 use Rattle.blocks.specs.Held.{place}
-use Rattle.file.specs.Filled.{BytesFilled}
-use Rattle.file.proofs.Fill.{bytes-on}
+use Rattle.lists.specs.Written.{EntriesWritten}
+use Rattle.lists.proofs.Entries.{entries-on}
 use Rattle.file.proofs.Places.{at-body}
 use borrow.Author.Needs.{needs}
 use native.Mathlib.Omega.{arith}
@@ -17,8 +17,8 @@ use Rattle.file.proofs.writing.write_body.Tie as tie
 abbrev Inv-loop : tie.InvT-loop
 Inv-loop arcs supplies b file₀ block i₀ file i =
     (i ≤ check-at) × (length file ≡ length file₀)
-    × ((before : List ℕ) → BytesFilled (file-byte first-edition (plan-of arcs supplies)) (place b 0) before file₀
-    → BytesFilled (file-byte first-edition (plan-of arcs supplies)) (place b i) before file)
+    × ((before : List ℕ) → EntriesWritten 0 (file-byte first-edition (plan-of arcs supplies)) (place b 0) before file₀
+    → EntriesWritten 0 (file-byte first-edition (plan-of arcs supplies)) (place b i) before file)
 
 abbrev μ-loop : tie.MeasureT-loop
 μ-loop arcs supplies b file₀ block i₀ file i = check-at - i
@@ -56,7 +56,7 @@ loop-again c =
     let next : a .b * 512 + (i + 1) ≡ a .b * 512 + i + 1 = omega arith in (
       omega arith,
       length-set (c .before .before .loop .file) (a .b * 512 + i) (c .body-byte .result) ∙ inv .1,
-      λ before filled. rw next (bytes-on (omega (arith, inv .1, c .before .loop-test .taken, c .before .before .before .before .before .before .pre .1 .1)) (at-body first-edition p (a .b) i (c .before .loop-test .taken) (c .body-byte .ensures)) (inv .2 before filled)),
+      λ before filled. rw next (entries-on (omega (arith, inv .1, c .before .loop-test .taken, c .before .before .before .before .before .before .pre .1 .1)) (at-body first-edition p (a .b) i (c .before .loop-test .taken) (c .body-byte .ensures)) (inv .2 before filled)),
     )
 
 same-length : tie.Need-same-length Inv-loop μ-loop

@@ -4,7 +4,7 @@ use mathlib.Core.Path.{_≡_, sym, ap, _∙_}
 use lib.ListN.{length-set}
 use Rattle.blocks.specs.Format.{first-edition, digit, body-byte, check-of}
 use Rattle.blocks.specs.Held.{place, byte}
-use Rattle.file.proofs.Fill.{bytes-on}
+use Rattle.lists.proofs.Entries.{entries-on}
 use Rattle.file.proofs.Places.{body-at, check-low, check-high, check-same}
 use native.Mathlib.Omega.{arith}
 use borrow.Author.Needs.{needs}
@@ -48,9 +48,9 @@ returns c =
     let same : c .before .before .check-of .result ≡ check-of (body-byte first-edition p b) =
     c .before .before .check-of .ensures ∙ check-same (byte file b) (body-byte first-edition p b) (λ i l. filled .there (place b i) (omega arith) ∙ body-at first-edition p b i l) in
     let next : (b + 1) * 512 + 0 ≡ at + 1 + 1 = omega arith in
-    rw next (bytes-on (omega (arith, length-set file at low, c .before .before .before .before .before .pre))
+    rw next (entries-on (omega (arith, length-set file at low, c .before .before .before .before .before .pre))
     (c .digit2 .ensures ∙ ap (λ s. digit s 1) same ∙ sym (check-high first-edition p b))
-    (bytes-on (omega (arith, c .before .before .before .before .before .pre)) (c .before .digit .ensures ∙ ap (λ s. digit s 0) same ∙ sym (check-low first-edition p b)) filled))
+    (entries-on (omega (arith, c .before .before .before .before .before .pre)) (c .before .digit .ensures ∙ ap (λ s. digit s 0) same ∙ sym (check-low first-edition p b)) filled))
 
 pub write-check-spec : {M : Type 1} → statement M
 write-check-spec =

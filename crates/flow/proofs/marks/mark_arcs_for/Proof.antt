@@ -8,20 +8,22 @@ use Rattle.engine.specs.Reach.{marked}
 use Rattle.plan.specs.Reason.{end-marks}
 use Rattle.plan.specs.Plan.{plan-of}
 use Rattle.plan.specs.Limits.{arc-entries}
-use Rattle.stand.proofs.Writing.{Writing, filled-begins, writing-on, written}
+use Rattle.lists.specs.Written.{EntriesWritten}
+use Rattle.lists.proofs.Entries.{entries-none, entries-on}
+use Rattle.stand.proofs.Writing.{written}
 use Rattle.flow.proofs.marks.mark_arcs_for.Statement.{statement}
 use Rattle.flow.proofs.marks.mark_arcs_for.Tie as tie
 
 abbrev Inv-loop : tie.InvT-loop
 Inv-loop arcs supplies marks k upper buffer₀ count j₀ buffer j =
     (j ≤ length arcs / arc-entries)
-    × Writing (end-marks (plan-of arcs supplies) k upper (marked marks)) j buffer₀ buffer
+    × EntriesWritten 0 (end-marks (plan-of arcs supplies) k upper (marked marks)) j buffer₀ buffer
 
 abbrev μ-loop : tie.MeasureT-loop
 μ-loop arcs supplies marks k upper buffer₀ count j₀ buffer j = length arcs / arc-entries - j
 
 loop-holds : tie.Need-loop-holds Inv-loop μ-loop
-loop-holds c = (omega arith, filled-begins)
+loop-holds c = (omega arith, entries-none)
 
 mark-of-requires : tie.Need-mark-of-requires Inv-loop μ-loop
 mark-of-requires c κs = search needs
@@ -39,7 +41,7 @@ loop-less : tie.Need-loop-less Inv-loop μ-loop
 loop-less c = search needs
 
 loop-again : tie.Need-loop-again Inv-loop μ-loop
-loop-again c = (omega arith, writing-on (omega arith) (c .mark-of .ensures) (c .before .before .loop .inv .1))
+loop-again c = (omega arith, entries-on (omega arith) (c .mark-of .ensures) (c .before .before .loop .inv .1))
 
 same-length : tie.Need-same-length Inv-loop μ-loop
 same-length c = c .before .loop .inv .1 .same-length

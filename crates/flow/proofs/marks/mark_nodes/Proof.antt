@@ -4,18 +4,20 @@ use mathlib.Core.Path.{_≡_, refl}
 use native.Mathlib.Omega.{arith}
 use borrow.Author.Needs.{needs}
 use Rattle.engine.specs.Room.{at}
-use Rattle.stand.proofs.Writing.{Writing, filled-begins, writing-on, written}
+use Rattle.lists.specs.Written.{EntriesWritten}
+use Rattle.lists.proofs.Entries.{entries-none, entries-on}
+use Rattle.stand.proofs.Writing.{written}
 use Rattle.flow.proofs.marks.mark_nodes.Statement.{statement}
 use Rattle.flow.proofs.marks.mark_nodes.Tie as tie
 
 abbrev Inv-loop : tie.InvT-loop
-Inv-loop marks n buffer₀ v₀ buffer v = (v ≤ n) × Writing (at marks) v buffer₀ buffer
+Inv-loop marks n buffer₀ v₀ buffer v = (v ≤ n) × EntriesWritten 0 (at marks) v buffer₀ buffer
 
 abbrev μ-loop : tie.MeasureT-loop
 μ-loop marks n buffer₀ v₀ buffer v = n - v
 
 loop-holds : tie.Need-loop-holds Inv-loop μ-loop
-loop-holds c = (omega arith, filled-begins)
+loop-holds c = (omega arith, entries-none)
 
 shared-slice-read-buffer : tie.Need-shared-slice-read-buffer Inv-loop μ-loop
 shared-slice-read-buffer c = search needs
@@ -30,7 +32,7 @@ loop-less : tie.Need-loop-less Inv-loop μ-loop
 loop-less c = search needs
 
 loop-again : tie.Need-loop-again Inv-loop μ-loop
-loop-again c = (omega arith, writing-on (omega arith) refl (c .before .before .loop .inv .1))
+loop-again c = (omega arith, entries-on (omega arith) refl (c .before .before .loop .inv .1))
 
 same-length : tie.Need-same-length Inv-loop μ-loop
 same-length c = c .before .loop .inv .1 .same-length

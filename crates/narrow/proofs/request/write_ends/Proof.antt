@@ -10,14 +10,15 @@ use Rattle.plan.specs.Limits.{arc-entries}
 use Rattle.plan.specs.Plan.{plan-of}
 use Rattle.plan.specs.Reason.{NarrowedEnd}
 use Rattle.stand.specs.State.{Ready}
-use Rattle.stand.proofs.Writing.{Filled, filled-begins, filled-on}
+use Rattle.lists.specs.Written.{EntriesHold}
+use Rattle.lists.proofs.Entries.{entries-none, entry-holds}
 use borrow.Author.Needs.{needs}
 use Rattle.narrow.proofs.request.write_ends.Statement.{statement}
 use Rattle.narrow.proofs.request.write_ends.Tie as tie
 
 abbrev Inv-loop : tie.InvT-loop
 Inv-loop arcs supplies upper ends₀ rooms₀ over₀ under₀ marks₀ count k₀ ends rooms over under marks k =
-    (k ≤ length arcs / arc-entries) × Filled (λ i x. NarrowedEnd (plan-of arcs supplies) i upper x) k ends₀ ends
+    (k ≤ length arcs / arc-entries) × EntriesHold 0 (λ i x. NarrowedEnd (plan-of arcs supplies) i upper x) k ends₀ ends
     × SameLengths rooms₀ over₀ under₀ rooms over under × (length marks ≡ length marks₀)
     × Ready (plan-of arcs supplies) (seen rooms false) (at over) (at under)
 
@@ -27,7 +28,7 @@ abbrev μ-loop : tie.MeasureT-loop
 loop-holds : tie.Need-loop-holds Inv-loop μ-loop
 loop-holds c = (
   omega arith,
-  filled-begins,
+  entries-none,
   record { first-length = refl; second-length = refl; third-length = refl },
   refl,
   c .before .before .before .before .before .before .pre .1 .1 .1 .0,
@@ -57,7 +58,7 @@ loop-again c =
     let inv = c .before .before .before .before .before .before .before .before .before .before .before .before .before .before .loop .inv in
     let k = c .before .before .before .before .before .before .before .before .end-for .kept in (
       omega arith,
-      filled-on (c .before .before .before .before .before .before .before .before .end-for .result) (omega (arith, inv .1 .same-length, pre .1 .1 .1 .1)) (c .before .before .before .before .before .before .before .before .end-for .ensures .0) (inv .1),
+      entry-holds (c .before .before .before .before .before .before .before .before .end-for .result) (omega (arith, inv .1 .same-length, pre .1 .1 .1 .1)) (c .before .before .before .before .before .before .before .before .end-for .ensures .0) (inv .1),
       record { first-length = k .1 .1 .1 .1 .0 ∙ inv .2 .first-length; second-length = k .1 .1 .1 .1 .1 .0 ∙ inv .2 .second-length; third-length = k .1 .1 .1 .1 .1 .1 .0 ∙ inv .2 .third-length },
       k .1 .1 .1 .1 .1 .1 .1 .0 ∙ inv .3,
       c .before .before .before .before .before .before .before .before .end-for .ensures .1,

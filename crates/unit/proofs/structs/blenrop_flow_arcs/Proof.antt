@@ -9,10 +9,10 @@ use Rattle.flow.specs.Answer.{FlowAnswers}
 use Rattle.arcs.proofs.take_apart.Symbol as take-def
 use Rattle.arcs.proofs.take_apart.Symbol.{name as #arcs·take-apart}
 use Rattle.arcs.proofs.take_apart.Met as take-thm
-use Rattle.unit.specs.Crossing.{Crosses, flow-reading}
+use Rattle.crossing.specs.Crossing.{Crosses, flow-reading}
 use Rattle.arcs.proofs.Entry as walk
-use Rattle.unit.proofs.answer.Answer as S
-use Rattle.unit.proofs.answer.Answer.Laws as S′
+use Rattle.crossing.proofs.answer.Answer as S
+use Rattle.crossing.proofs.answer.Answer.Laws as S′
 use Rattle.unit.proofs.structs.flow_over.Symbol as over-def
 use Rattle.unit.proofs.structs.flow_over.Symbol.{name as #unit·structs·flow-over}
 use Rattle.unit.proofs.structs.flow_over.Met as over-thm

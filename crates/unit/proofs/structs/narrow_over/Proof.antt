@@ -3,7 +3,7 @@ use mathlib.Core.Path.{sym}
 use lib.Seq.{length-take-le}
 use Rattle.narrow.specs.Answer.{NarrowAnswers}
 use Rattle.arcs.proofs.Taking.{cut-within}
-use Rattle.unit.specs.Crossing.{flow-reading}
+use Rattle.crossing.specs.Crossing.{flow-reading}
 use Rattle.unit.proofs.Apart.{of-arcs, narrow-many}
 use native.Mathlib.Omega.{arith}
 use borrow.Author.Needs.{needs}

@@ -1,0 +1,3 @@
+pub mod Entries
+pub mod Arcs
+pub mod Same

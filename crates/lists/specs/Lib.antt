@@ -1,0 +1,2 @@
+-- A plan written down as a flat list of arcs and a list of supplies.
+pub mod Written

@@ -1,2 +1,0 @@
--- How an answer crosses to C.
-pub mod Crossing
