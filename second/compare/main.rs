@@ -12,10 +12,15 @@ mod requests;
 mod run;
 mod self_test;
 
+use std::ops::Range;
+use std::thread;
+
 use run::Run;
 
 const SEED: u64 = 1;
 const ROUNDS: usize = 4_000;
+/// The rounds are shared out to so many threads on every machine, so that a seed stands for one run.
+const THREADS: usize = 2;
 
 struct Options {
     seed: u64,
@@ -32,8 +37,7 @@ fn main() {
         self_test::every_fault_is_seen(options.seed);
         return;
     }
-    let mut run = Run::of_seed(options.seed);
-    compare(&mut run, options.rounds);
+    let run = compare_on_threads(options.seed, options.rounds);
     print!("{}", run.numbers());
     if !run.met_every_number() {
         println!("not every number came up: {} rounds are too few", options.rounds);
@@ -42,10 +46,25 @@ fn main() {
     println!("compared: {}; {} requests, 0 differences", run.tally(), run.total());
 }
 
-/// Ends the program at the first difference.
-fn compare(run: &mut Run, rounds: usize) {
-    pass::worked::all(run);
-    for number in 0..rounds {
+fn compare_on_threads(seed: u64, rounds: usize) -> Run {
+    let part = |number: usize| {
+        let mut run = Run::of_part(seed, number);
+        compare(&mut run, number * rounds / THREADS..(number + 1) * rounds / THREADS);
+        run
+    };
+    thread::scope(|scope| {
+        let parts: Vec<_> = (0..THREADS).map(|number| scope.spawn(move || part(number))).collect();
+        parts.into_iter().map(|part| part.join().expect("a thread ended early")).reduce(Run::and)
+    })
+    .expect("there is a thread")
+}
+
+/// Ends the program at the first difference. The worked plans go with the first round.
+fn compare(run: &mut Run, rounds: Range<usize>) {
+    if rounds.start == 0 {
+        pass::worked::all(run);
+    }
+    for number in rounds {
         pass::networks::round(run, number);
         pass::countings::round(run, number);
         pass::files::round(run);

@@ -31,13 +31,23 @@ pub struct Run {
 }
 
 impl Run {
-    pub fn of_seed(seed: u64) -> Run {
-        Run { random: Random::of_seed(seed), seed, planting: None, compared: BTreeMap::new() }
+    /// A part of the run that the seed stands for, with random numbers of its own.
+    pub fn of_part(seed: u64, number: usize) -> Run {
+        let random = Random::of_seed(seed ^ (number as u64) << 32);
+        Run { random, seed, planting: None, compared: BTreeMap::new() }
     }
 
     /// A run that plants a fault in every answer, and ends the program if one is not told.
     pub fn planting(fault: Fault, seed: u64) -> Run {
-        Run { planting: Some(fault), ..Run::of_seed(seed) }
+        Run { planting: Some(fault), ..Run::of_part(seed, 0) }
+    }
+
+    /// What two parts compared, as one.
+    pub fn and(mut self, other: Run) -> Run {
+        for (name_and_number, times) in other.compared {
+            *self.compared.entry(name_and_number).or_default() += times;
+        }
+        self
     }
 
     pub fn list<T: Entry>(&mut self, name: &'static str, entries: &[T]) -> Lent<T> {

@@ -9,7 +9,7 @@ const ROUNDS: usize = 25;
 pub fn every_fault_is_seen(seed: u64) {
     for fault in Fault::ALL {
         let mut run = Run::planting(fault, seed);
-        crate::compare(&mut run, ROUNDS);
+        crate::compare(&mut run, 0..ROUNDS);
         let tried = requests::ALL.iter().all(|request| 0 < run.total_of(request));
         assert!(tried, "a wrong {fault:?} was not tried in every request");
         println!("a wrong {fault:?} was seen each time: {}", run.tally());

@@ -10,9 +10,9 @@ use native.Mathlib.Omega.{arith}
 use native.Mathlib.Decide.{ℕ-discrete, decLt}
 use Rattle.numbers.specs.Sums.{sum, only, sum-in, put}
 use Rattle.numbers.proofs.Sums.{sum-in-same, sum-in-agree, sum-in-swap, sum-in-zero, sum-in-member, sum-member, put-there, put-elsewhere, put-cases}
-use Rattle.engine.specs.Room.{side, crossing, Small, Kept}
-use Rattle.engine.specs.Move.{Pushed, Less, Taken}
-use Rattle.engine.specs.Reach.{Step, Reach, Closed}
+use Rattle.rooms.specs.Room.{side, crossing, Small, Kept}
+use Rattle.rooms.specs.Move.{Pushed, Less, Taken}
+use Rattle.reach.specs.Reach.{Step, Reach, Closed}
 use Rattle.across.specs.Raise.{Balanced, NoneShort, SameAccount, Shifted, Splits, Tight, Stopped, Raised, Still, MadeRoom, HeldOut}
 use Rattle.engine.specs.Settle.{Settled}
 use Rattle.engine.proofs.Account.{sum-in-less, cell-change, put-room, put-room-there, put-room-elsewhere, crossing-pushed, pairs-pushed}

@@ -5,8 +5,8 @@ use mathlib.Core.Path.{_≡_}
 use mathlib.Core.Bool.{Bool, true, false, not}
 use mathlib.Core.List.{List}
 use Rattle.numbers.specs.Sums.{sum, sum-in, only}
-use Rattle.engine.specs.Room.{at, seen, crossing}
-use Rattle.engine.specs.Reach.{marked}
+use Rattle.rooms.specs.Room.{at, seen, crossing}
+use Rattle.reach.specs.Reach.{marked}
 
 -- nothing is over and nothing is under
 pub record Balanced (n : ℕ) (over under : ℕ → ℕ) : Type 0 where

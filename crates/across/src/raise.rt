@@ -1,21 +1,21 @@
 // Raising a room: how much can be brought from one node to another besides the direct step, and which set
 // is in the way; balancing again; and taking an arc's share out of the rooms. Each starts from a balanced
 // state or from one in which no set is short.
-use engine::rooms::add;
-use engine::rooms::lesser;
-use engine::rooms::place;
-use engine::rooms::push;
-use engine::rooms::room_of;
-use engine::rooms::take;
 use engine::settle::settle;
 use engine::sweep::move_on;
 use engine::sweep::pay;
+use rooms::add;
+use rooms::lesser;
+use rooms::place;
+use rooms::push;
+use rooms::room_of;
+use rooms::take;
 ghost use mathlib.Core.Path.{_≡_};
 ghost use mathlib.Core.Bool.{false};
 ghost use Prim.Native.Nat.{_+_, _*_, _^_, _≤_, _<_};
 ghost use lib.ListN.{length};
-ghost use Rattle.engine.specs.Room.{side, at, seen, Small, Kept, Lent};
-ghost use Rattle.engine.specs.Move.{Taken};
+ghost use Rattle.rooms.specs.Room.{side, at, seen, Small, Kept, Lent};
+ghost use Rattle.rooms.specs.Move.{Taken};
 ghost use Rattle.across.specs.Raise.{Balanced, NoneShort, Shifted, Stopped, Raised, Measured, MadeRoom, HeldOut};
 
 // Moves all that is over to where it lacks, where no set is short.

@@ -14,11 +14,11 @@ use Rattle.plan.specs.Plan.{Plan}
 use Rattle.plan.specs.Verdict.{verdict, whole, count-rules, limit-rules}
 use Rattle.plan.specs.declared.Verdict.the-variants.{Accepted}
 use Rattle.plan.proofs.Refusals.{Clear, accepted-clear, clear-accepted, neither}
-use Rattle.blocks.specs.Format.{Edition, block-size, kind-at, number-at, first-at, second-at, check-at, blocks-of, kind-of, first-count, second-count, content-end, check-of}
-use Rattle.blocks.specs.Held.{two, place, byte, held}
+use Rattle.format.specs.Format.{Edition, block-size, kind-at, number-at, first-at, second-at, check-at, blocks-of, kind-of, first-count, second-count, content-end, check-of}
+use Rattle.format.specs.Held.{two, place, byte, held}
 use Rattle.blocks.specs.Rules.{blocks-in, counts-wrong, unused-wrong, shape-rules, content-rules, block-rules, reading-rules}
 use Rattle.blocks.specs.Sound.{Shaped, Counted, Contained, Sound}
-use Rattle.blocks.proofs.Check.{any-none, none-any}
+use Rattle.blocks.proofs.Any.{any-none, none-any}
 use Rattle.blocks.proofs.Order.{both-accepted, accepted-both}
 use Rattle.blocks.proofs.Wrong.{unused-before, unused-zero}
 

@@ -1,6 +1,4 @@
-pub mod Complement
-pub mod Check
+pub mod Any
 pub mod Wrong
 pub mod Order
 pub mod Accepted
-pub mod Digits

@@ -15,8 +15,8 @@ use Rattle.plan.specs.Verdict.{Rule, Lowest, lowest, verdict, whole, count-rule
 use Rattle.plan.specs.declared.Verdict.{Verdict}
 use Rattle.plan.specs.declared.Verdict.the-variants.{Accepted, Refused}
 use Rattle.plan.proofs.Refusals.{after, verdict-after, lowest-at, lowest-past, accepted-clear, neither}
-use Rattle.blocks.specs.Format.{Edition, blocks-of}
-use Rattle.blocks.specs.Held.{held}
+use Rattle.format.specs.Format.{Edition, blocks-of}
+use Rattle.format.specs.Held.{held}
 use Rattle.blocks.specs.Rules.{blocks-in, length-wrong, check-wrong, label-wrong, content-wrong, shape-rules, content-rules, block-rules, reading-rules, payload-rules, lent-short}
 
 module _ (rules more : List Rule) where

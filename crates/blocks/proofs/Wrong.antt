@@ -6,8 +6,8 @@ use mathlib.Core.List.{List}
 use lib.Dec.{leb, eqb}
 use lib.ListN.{length}
 use borrow.Author.Tests.{lt-ltb, le-ltb, le-leb, lt-leb, eq-eqb, ne-eqb}
-use Rattle.blocks.specs.Format.{Edition, block-size, kind-at, number-at, first-at, second-at, kind-of, first-count, second-count, content-end}
-use Rattle.blocks.specs.Held.{two, place, byte}
+use Rattle.format.specs.Format.{Edition, block-size, kind-at, number-at, first-at, second-at, kind-of, first-count, second-count, content-end}
+use Rattle.format.specs.Held.{two, place, byte}
 use Rattle.blocks.specs.Rules.{length-wrong, label-wrong, unused-wrong, content-wrong}
 
 module _ (e : Edition) (file : List ℕ) where

@@ -1,6 +1,3 @@
--- The plan file as definitions: its format, what bytes hold, and what a file is turned down for.
-pub mod Format
-pub mod Held
+-- What a file is turned down for, and what it says of itself where it is not.
 pub mod Rules
 pub mod Sound
-pub mod Block

@@ -10,8 +10,8 @@ use Rattle.plan.specs.Limits.{arc-entries}
 use Rattle.plan.specs.Plan.{Plan}
 use Rattle.plan.specs.Verdict.{Rule, whole, verdict, count-rules, limit-rules}
 use Rattle.plan.specs.declared.Verdict.the-variants.{Accepted}
-use Rattle.blocks.specs.Format.{Edition, block-size, kind-at, number-at, first-at, second-at, check-at, blocks-of, kind-of, first-count, second-count, content-end, check-of}
-use Rattle.blocks.specs.Held.{two, place, byte, held}
+use Rattle.format.specs.Format.{Edition, block-size, kind-at, number-at, first-at, second-at, check-at, blocks-of, kind-of, first-count, second-count, content-end, check-of}
+use Rattle.format.specs.Held.{two, place, byte, held}
 
 -- some index below n passes a test
 unfoldable pub any : ℕ → (ℕ → Bool) → Bool

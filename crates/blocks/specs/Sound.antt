@@ -6,8 +6,8 @@ use mathlib.Core.List.{List}
 use lib.ListN.{length}
 use Rattle.plan.specs.Limits.{most-nodes, most-arcs}
 use Rattle.plan.specs.Plan.{Plan}
-use Rattle.blocks.specs.Format.{Edition, block-size, kind-at, number-at, first-at, second-at, check-at, blocks-of, kind-of, first-count, second-count, content-end, check-of}
-use Rattle.blocks.specs.Held.{two, place, byte, held}
+use Rattle.format.specs.Format.{Edition, block-size, kind-at, number-at, first-at, second-at, check-at, blocks-of, kind-of, first-count, second-count, content-end, check-of}
+use Rattle.format.specs.Held.{two, place, byte, held}
 use Rattle.blocks.specs.Rules.{blocks-in}
 
 pub record Shaped (e : Edition) (file : List ℕ) : Type 0 where

@@ -1,71 +1,196 @@
-// The blocks of a plan file: what stands where in a file of a network (specs/), what the bytes of a file
-// say, and the verdict on a file's blocks. `file` reads and writes with it. It uses `plan`.
-pub mod bytes;
-pub mod checking;
-pub mod layout;
-
+// The verdict on a file's blocks, before any buffer is looked at: the numbers 11, 12, 13, 1, 2 and 14, each
+// with the lowest block. It uses `format` for what stands where.
+use format::Block;
+use format::Edition;
+use format::bytes::two;
+use format::bytes::wide;
+use format::layout::block_of;
+use format::layout::blocks_of;
+use format::layout::check_of;
+use format::layout::kind_of;
+use plan::Plan;
+use plan::Verdict;
 ghost use mathlib.Core.Path.{_≡_};
-ghost use Rattle.blocks.specs.Format.{first-edition, block-size, kind-at, number-at, first-at, second-at, payload-at, check-at, check-modulus, supply-size};
+ghost use Prim.Native.Nat.{_≤_, _<_, _/_};
+ghost use lib.ListN.{length};
+ghost use Rattle.plan.specs.Limits.{most-nodes, most-arcs};
+ghost use Rattle.plan.specs.Plan.{Plan as Meant};
+ghost use Rattle.plan.specs.Verdict.{Lowest, verdict, count-rules};
+ghost use Rattle.format.specs.Format.{first-edition};
+ghost use Rattle.blocks.specs.Rules.{length-wrong, check-wrong, label-wrong, unused-wrong, content-wrong, blocks-in, shape-rules, content-rules, block-rules};
 
-// What a later edition of the file changes.
-pub struct Edition {}
-
-impl Edition {
-    pub const HEAD_KIND: u8 = 1;
-
-    pub const ARC_KIND: u8 = 2;
-
-    pub const RECORD_SIZE: usize = 6;
-
-    pub const BLOCK_ARCS: usize = 84;
-
-    pub const LONGEST: usize = 4_096;
+// The file's length is 0, above the longest, or not in whole blocks.
+fn length_wrong(file: &[u8]) -> bool
+    ensures { λ r. ⌜ r ≡ length-wrong first-edition (now (file .entry)) ⌝ }
+{
+    let length = file.len();
+    if length == 0 {
+        return true;
+    }
+    if Edition::LONGEST < length {
+        return true;
+    }
+    length % Block::SIZE != 0
 }
 
-// How a block begins and how far its content goes: kind, number, the two counts, and the byte at which
-// the content ends.
-pub struct Block {
-    pub kind: u8,
-    pub number: usize,
-    pub first: usize,
-    pub second: usize,
-    pub end: usize,
+// The check of block b is not the sum over its bytes.
+fn check_wrong(file: &[u8], b: usize) -> bool
+    requires { ⌜ b < blocks-in (now file) ⌝ }
+    ensures { λ r. ⌜ r ≡ check-wrong (now (file .entry)) b ⌝ }
+{
+    two(file, b * Block::SIZE + Block::CHECK_AT) != check_of(file, b)
 }
 
-impl Block {
-    pub const SIZE: usize = 512;
-
-    pub const KIND_AT: usize = 0;
-
-    pub const NUMBER_AT: usize = 1;
-
-    pub const FIRST_AT: usize = 2;
-
-    pub const SECOND_AT: usize = 4;
-
-    pub const PAYLOAD_AT: usize = 6;
-
-    pub const CHECK_AT: usize = 510;
-
-    pub const CHECK_MODULUS: usize = 65_521;
-
-    pub const SUPPLY_SIZE: usize = 4;
+// The kind or the number of block b is not its own.
+fn label_wrong(file: &[u8], b: usize) -> bool
+    requires { ⌜ b < blocks-in (now file) ⌝ }
+    ensures { λ r. ⌜ r ≡ label-wrong first-edition (now (file .entry)) b ⌝ }
+{
+    if file[b * Block::SIZE + Block::KIND_AT] != kind_of(b) {
+        return true;
+    }
+    wide(file[b * Block::SIZE + Block::NUMBER_AT]) != b
 }
 
-// It does nothing: its contract says that the code's numbers are those of the definitions.
-pub fn numbers_agree()
-    ensures head_kind { λ r. do ⌜ (← ⟦Edition::HEAD_KIND⟧ .entry) ≡ first-edition .head-kind ⌝ }
-    ensures arc_kind { λ r. do ⌜ (← ⟦Edition::ARC_KIND⟧ .entry) ≡ first-edition .arc-kind ⌝ }
-    ensures record_size { λ r. do ⌜ (← ⟦Edition::RECORD_SIZE⟧ .entry) ≡ first-edition .record-size ⌝ }
-    ensures block_arcs { λ r. do ⌜ (← ⟦Edition::BLOCK_ARCS⟧ .entry) ≡ first-edition .block-arcs ⌝ }
-    ensures longest { λ r. do ⌜ (← ⟦Edition::LONGEST⟧ .entry) ≡ first-edition .longest ⌝ }
-    ensures size { λ r. do ⌜ (← ⟦Block::SIZE⟧ .entry) ≡ block-size ⌝ }
-    ensures kind_at { λ r. do ⌜ (← ⟦Block::KIND_AT⟧ .entry) ≡ kind-at ⌝ }
-    ensures number_at { λ r. do ⌜ (← ⟦Block::NUMBER_AT⟧ .entry) ≡ number-at ⌝ }
-    ensures first_at { λ r. do ⌜ (← ⟦Block::FIRST_AT⟧ .entry) ≡ first-at ⌝ }
-    ensures second_at { λ r. do ⌜ (← ⟦Block::SECOND_AT⟧ .entry) ≡ second-at ⌝ }
-    ensures payload_at { λ r. do ⌜ (← ⟦Block::PAYLOAD_AT⟧ .entry) ≡ payload-at ⌝ }
-    ensures check_at { λ r. do ⌜ (← ⟦Block::CHECK_AT⟧ .entry) ≡ check-at ⌝ }
-    ensures check_modulus { λ r. do ⌜ (← ⟦Block::CHECK_MODULUS⟧ .entry) ≡ check-modulus ⌝ }
-    ensures supply_size { λ r. do ⌜ (← ⟦Block::SUPPLY_SIZE⟧ .entry) ≡ supply-size ⌝ }
-{}
+// A byte of block b from `end` to its check is not 0.
+fn unused_wrong(file: &[u8], b: usize, end: usize) -> bool
+    requires { ⌜ b < blocks-in (now file) ⌝ }
+    ensures { λ r. ⌜ r ≡ unused-wrong end (now (file .entry)) b ⌝ }
+{
+    let mut i = end;
+    while i < Block::CHECK_AT {
+        if file[b * Block::SIZE + i] != 0 {
+            return true;
+        }
+        i += 1;
+    }
+    false
+}
+
+// A count of block b is not that of a plan of so many nodes and arcs, or an unused byte is not 0.
+fn content_wrong(file: &[u8], nodes: usize, arcs: usize, b: usize) -> bool
+    requires block { ⌜ (b < blocks-in (now file)) × (b < 256) ⌝ }
+    requires nodes { ⌜ nodes ≤ most-nodes ⌝ }
+    ensures { λ r. ⌜ r ≡ content-wrong first-edition nodes arcs (now (file .entry)) b ⌝ }
+{
+    let block = block_of(nodes, arcs, b);
+    if two(file, b * Block::SIZE + Block::FIRST_AT) != block.first {
+        return true;
+    }
+    if two(file, b * Block::SIZE + Block::SECOND_AT) != block.second {
+        return true;
+    }
+    unused_wrong(file, b, block.end)
+}
+
+// The lowest block with a wrong check, or the number of blocks.
+fn lowest_wrong_check(file: &[u8]) -> usize
+    ensures { λ r. ⌜ Lowest (check-wrong (now (file .entry))) (blocks-in (now (file .entry))) r ⌝ }
+{
+    let count = file.len() / Block::SIZE;
+    let mut b = 0;
+    while b < count {
+        if check_wrong(file, b) {
+            return b;
+        }
+        b += 1;
+    }
+    b
+}
+
+// The lowest block with a wrong kind or number, or the number of blocks.
+fn lowest_wrong_label(file: &[u8]) -> usize
+    ensures { λ r. ⌜ Lowest (label-wrong first-edition (now (file .entry))) (blocks-in (now (file .entry))) r ⌝ }
+{
+    let count = file.len() / Block::SIZE;
+    let mut b = 0;
+    while b < count {
+        if label_wrong(file, b) {
+            return b;
+        }
+        b += 1;
+    }
+    b
+}
+
+// The lowest block with a wrong count or an unused byte that is not 0, or the number of blocks.
+fn lowest_wrong_content(file: &[u8], nodes: usize, arcs: usize) -> usize
+    requires { ⌜ (blocks-in (now file) ≤ 256) × (nodes ≤ most-nodes) ⌝ }
+    ensures { λ r. ⌜ Lowest (content-wrong first-edition nodes arcs (now (file .entry))) (blocks-in (now (file .entry))) r ⌝ }
+{
+    let count = file.len() / Block::SIZE;
+    let mut b = 0;
+    while b < count {
+        if content_wrong(file, nodes, arcs, b) {
+            return b;
+        }
+        b += 1;
+    }
+    b
+}
+
+// The verdict by the numbers 11, 12 and 13: the file's length, each block's check, its kind and number.
+fn check_shape(file: &[u8]) -> Verdict
+    ensures { λ r. ⌜ r ≡ verdict (shape-rules first-edition (now (file .entry))) ⌝ }
+{
+    if length_wrong(file) {
+        return Verdict::Refused(11, 0);
+    }
+    let count = file.len() / Block::SIZE;
+    let check = lowest_wrong_check(file);
+    if check < count {
+        return Verdict::Refused(12, check);
+    }
+    let label = lowest_wrong_label(file);
+    if label < count {
+        return Verdict::Refused(13, label);
+    }
+    Verdict::Accepted
+}
+
+// The verdict by the numbers 1 and 2 on a plan of so many nodes and arcs.
+fn check_counts(nodes: usize, arcs: usize) -> Verdict
+    ensures { λ r. ⌜ ((p : Meant) → p .nodes ≡ nodes → p .arcs ≡ arcs → r ≡ verdict (count-rules p)) ⌝ }
+{
+    if nodes == 0 {
+        return Verdict::Refused(1, 0);
+    }
+    if Plan::MOST_NODES < nodes {
+        return Verdict::Refused(1, 0);
+    }
+    if Plan::MOST_ARCS < arcs {
+        return Verdict::Refused(2, 0);
+    }
+    Verdict::Accepted
+}
+
+// The verdict by the number 14: how many blocks there are, then what each says of itself.
+fn check_content(file: &[u8], nodes: usize, arcs: usize) -> Verdict
+    requires { ⌜ (blocks-in (now file) ≤ 256) × (nodes ≤ most-nodes) × (arcs ≤ most-arcs) ⌝ }
+    ensures { λ r. ⌜ r ≡ verdict (content-rules first-edition nodes arcs (now (file .entry))) ⌝ }
+{
+    let count = file.len() / Block::SIZE;
+    if count != blocks_of(arcs) {
+        return Verdict::Refused(14, 0);
+    }
+    let content = lowest_wrong_content(file, nodes, arcs);
+    if content < count {
+        return Verdict::Refused(14, content);
+    }
+    Verdict::Accepted
+}
+
+// The verdict on a file before any buffer is looked at: 11, 12, 13, 1, 2, 14.
+pub fn check_blocks(file: &[u8]) -> Verdict
+    ensures { λ r. ⌜ r ≡ verdict (block-rules first-edition (now (file .entry))) ⌝ }
+{
+    if let Verdict::Refused(number, index) = check_shape(file) {
+        return Verdict::Refused(number, index);
+    }
+    let nodes = two(file, Block::FIRST_AT);
+    let arcs = two(file, Block::SECOND_AT);
+    if let Verdict::Refused(number, index) = check_counts(nodes, arcs) {
+        return Verdict::Refused(number, index);
+    }
+    check_content(file, nodes, arcs)
+}

@@ -12,24 +12,25 @@ use lib.ListN.{length}
 use borrow.Author.Tests.{ltb-true, ltb-false, lt-ltb}
 use types.Run.{OneOf}
 use denote.Enum.Declared.{tagOf}
-use Rattle.engine.specs.Room.{at}
+use Rattle.rooms.specs.Room.{at}
 use Rattle.plan.specs.Plan.{WellFormed}
 use Rattle.plan.specs.Flow.{Narrowed}
 use Rattle.plan.specs.Verdict.{verdict}
 use Rattle.plan.specs.declared.Verdict.the-variants.{Accepted}
 use Rattle.plan.proofs.Refusals.{last-accepted, neither}
-use Rattle.stand.specs.Written.{Written}
+use Rattle.lists.specs.Written.{Written}
 use Rattle.flow.proofs.Answer.{the-type}
 use Rattle.flow.specs.declared.Answer.{Answer}
 use Rattle.flow.specs.declared.Answer.the-variants.{Runs, Short, Refused}
 use Rattle.narrow.specs.Answer.{Ranges, NarrowAnswers}
-use Rattle.count.specs.Counting.{Counting, counting-of, holds, Taken}
-use Rattle.count.specs.Network.{pairs, network}
+use Rattle.counting.specs.Counting.{Counting, counting-of, holds, Taken}
+use Rattle.counting.specs.Network.{pairs, network}
 use Rattle.count.specs.Narrowed.{DomainsOf}
-use Rattle.count.specs.Answer.{Buffers, buffers-short, counting-rules, judged, Counted, CountAnswers}
-use Rattle.count.proofs.Grid.{pair-below}
-use Rattle.count.proofs.Counted.{assignment-exactly-if-flow, taken-exactly, fewest-uses, most-uses}
-use Rattle.count.proofs.Refused.{accepted-network}
+use Rattle.counting.specs.Rules.{counting-rules}
+use Rattle.count.specs.Answer.{Buffers, buffers-short, judged, Counted, CountAnswers}
+use Rattle.counting.proofs.Grid.{pair-below}
+use Rattle.counting.proofs.Counted.{assignment-exactly-if-flow, taken-exactly, fewest-uses, most-uses}
+use Rattle.counting.proofs.Refused.{accepted-network}
 use Rattle.count.proofs.Asked.{not-refused}
 
 -- ---- what acceptance says

@@ -1,9 +1,4 @@
-pub mod Grid
-pub mod Assigned
-pub mod Counted
-pub mod Drawing
-pub mod Words
-pub mod Refused
+pub mod Built
 pub mod Asked
 pub mod Answering
 pub mod Unique

@@ -8,7 +8,7 @@ use mathlib.Core.Logic.{_↔_}
 use native.Mathlib.Omega.{arith}
 use lib.IntN.{ℤ}
 use lib.ListN.{length}
-use Rattle.engine.specs.Room.{at}
+use Rattle.rooms.specs.Room.{at}
 use Rattle.plan.specs.Plan.{Set}
 use Rattle.plan.specs.Shortage.{ShortBy}
 use Rattle.plan.specs.declared.Verdict.{Verdict}
@@ -20,11 +20,11 @@ use Rattle.lists.proofs.Arcs.{arcs-unique}
 use Rattle.flow.specs.Answer.{number}
 use Rattle.flow.specs.declared.Answer.{Answer}
 use Rattle.flow.specs.declared.Answer.the-variants.{Runs, Short, Refused}
-use Rattle.count.specs.Counting.{Counting, counting-of, Assignment, FewestUses, MostUses}
-use Rattle.count.specs.Network.{network}
+use Rattle.counting.specs.Counting.{Counting, counting-of, Assignment, FewestUses, MostUses}
+use Rattle.counting.specs.Network.{network}
 use Rattle.count.specs.Answer.{NetworkAnswers, Handed, Buffers, judged, Counted, CountAnswers}
-use Rattle.count.proofs.Words.{same-word}
-use Rattle.count.proofs.Assigned.{assignment-flows}
+use Rattle.counting.proofs.Words.{same-word}
+use Rattle.counting.proofs.Assigned.{assignment-flows}
 use Rattle.count.proofs.Answering.{judged-network}
 
 -- ---- what one promise says, another says too

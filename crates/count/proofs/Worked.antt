@@ -13,14 +13,15 @@ use lib.ListN.{length, getD}
 use borrow.Author.Tests.{ne-eqb, eq-eqb, lt-leb}
 use Rattle.numbers.specs.Sums.{only, put}
 use Rattle.numbers.proofs.Sums.{sum-same, last-or-before}
-use Rattle.engine.specs.Room.{at}
+use Rattle.rooms.specs.Room.{at}
 use Rattle.plan.specs.Verdict.{verdict}
 use Rattle.plan.specs.declared.Verdict.the-variants.{Accepted}
 use Rattle.plan.proofs.Tried.{decided?, if?, each?, accepts?}
 use Rattle.plan.proofs.Worked as plans
-use Rattle.count.specs.Counting.{Counting, counting-of, holds, uses, Assignment, Taken}
-use Rattle.count.specs.Answer.{counting-rules, Buffers, Counted}
-use Rattle.count.proofs.Words.{names-beyond-exactly}
+use Rattle.counting.specs.Counting.{Counting, counting-of, holds, uses, Assignment, Taken}
+use Rattle.counting.specs.Rules.{counting-rules}
+use Rattle.count.specs.Answer.{Buffers, Counted}
+use Rattle.counting.proofs.Words.{names-beyond-exactly}
 
 -- ---- the table
 

@@ -1,41 +1,25 @@
--- What a counting plan is turned down for, what its two requests answer, and what they leave in the lent buffers.
-use Prim.Native.Nat.{ℕ, _+_, _*_, _/_, _^_, _≤_, _<_}
+-- What the two requests of a counting plan answer, and what they leave in the lent buffers.
+use Prim.Native.Nat.{ℕ, _/_, _≤_, _<_}
 use mathlib.Core.Path.{_≡_}
 use mathlib.Core.Bool.{Bool, true, _||_}
 use mathlib.Core.List.{List, [], _∷_, _++_}
 use mathlib.Core.Logic.{_↔_}
-use lib.Dec.{leb, ltb}
+use lib.Dec.{ltb}
 use lib.IntN.{ℤ}
 use lib.ListN.{length}
-use Rattle.engine.specs.Room.{at}
-use Rattle.plan.specs.Limits.{most-nodes, most-arcs, widest-high, arc-entries}
+use Rattle.rooms.specs.Room.{at}
+use Rattle.plan.specs.Limits.{arc-entries}
 use Rattle.plan.specs.Plan.{Set}
 use Rattle.plan.specs.Shortage.{ShortBy}
-use Rattle.plan.specs.Verdict.{Rule, verdict, whole}
+use Rattle.plan.specs.Verdict.{verdict, whole}
 use Rattle.plan.specs.declared.Verdict.{Verdict}
 use Rattle.plan.specs.declared.Verdict.the-variants.{Accepted, Refused as TurnedDown}
 use Rattle.lists.specs.Written.{ArcsWritten, SuppliesWritten}
 use Rattle.flow.specs.declared.Answer.{Answer}
 use Rattle.flow.specs.declared.Answer.the-variants.{Runs, Short, Refused}
-use Rattle.count.specs.Counting.{Counting, counting-of, holds, Assignment, Taken, FewestUses, MostUses}
-use Rattle.count.specs.Network.{network}
-
--- a word names a value at or above the value count
-abbrev pub names-beyond : (domains : List ℕ) → (values : ℕ) → ℕ → Bool
-names-beyond domains values i = leb (2 ^ values) (at domains i)
-
--- a count low above its high, or the high above 65,535
-abbrev pub count-wrong : Counting → ℕ → Bool
-count-wrong c j = ltb (c .high j) (c .low j) || ltb widest-high (c .high j)
-
--- 15, 16, 17 and 18: what the counting plan itself is turned down for
-abbrev pub counting-rules : (domains : List ℕ) → Counting → List Rule
-counting-rules domains c =
-    whole 15 (ltb most-nodes (c .variables + c .values + 1))
-    ∷ record { number = 16; places = c .variables; concerns = names-beyond domains (c .values) }
-    ∷ whole 17 (ltb most-arcs (c .values * (c .variables + 1)))
-    ∷ record { number = 18; places = c .values; concerns = count-wrong c }
-    ∷ []
+use Rattle.counting.specs.Counting.{Counting, counting-of, holds, Assignment, Taken, FewestUses, MostUses}
+use Rattle.counting.specs.Network.{network}
+use Rattle.counting.specs.Rules.{counting-rules}
 
 -- 3 after them, where a lent buffer is too short for what the request may write
 abbrev pub counting-verdict : (domains : List ℕ) → Counting → (short : Bool) → Verdict

@@ -1,6 +1,3 @@
--- Counting plans: what an assignment is, the network that a counting plan is drawn as, how a domain is read off narrowed counts, and
--- what the requests answer.
-pub mod Counting
-pub mod Network
+-- How a domain is read off narrowed counts, and what the requests of a counting plan answer.
 pub mod Narrowed
 pub mod Answer

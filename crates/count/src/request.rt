@@ -1,28 +1,28 @@
 // The two requests of document 01 about a counting plan, for every input: what can still occur, and the network.
-use crate::RANGE_ENTRIES;
-use crate::check::check;
-use crate::draw::draw_arcs;
-use crate::draw::draw_supplies;
+use counting::RANGE_ENTRIES;
+use counting::check::check;
+use drawing::draw_arcs;
+use drawing::draw_supplies;
 use flow::Answer;
 use narrow::request::narrow;
+use network::too_short;
 use plan::Arc;
 use plan::Plan;
 use plan::Verdict;
-use plan::network::too_short;
 ghost use mathlib.Core.Path.{_≡_};
 ghost use mathlib.Core.Bool.{_||_};
 ghost use Prim.Native.Nat.{_+_, _*_, _/_, _≤_, _<_};
 ghost use lib.Dec.{ltb};
 ghost use lib.ListN.{length};
 ghost use Rattle.numbers.specs.Sums.{only};
-ghost use Rattle.engine.specs.Room.{at};
+ghost use Rattle.rooms.specs.Room.{at};
 ghost use Rattle.plan.specs.Limits.{most-nodes};
 ghost use Rattle.plan.specs.Plan.{WellFormed};
 ghost use Rattle.plan.specs.declared.Verdict.the-variants.{Accepted};
-ghost use Rattle.stand.specs.Written.{Written};
+ghost use Rattle.lists.specs.Written.{Written};
 ghost use Rattle.narrow.specs.Answer.{NarrowAnswers};
-ghost use Rattle.count.specs.Counting.{counting-of};
-ghost use Rattle.count.specs.Network.{network};
+ghost use Rattle.counting.specs.Counting.{counting-of};
+ghost use Rattle.counting.specs.Network.{network};
 ghost use Rattle.count.specs.Narrowed.{DomainOf, DomainsOf};
 ghost use Rattle.count.specs.Answer.{NetworkAnswers, judged, CountAnswers};
 

@@ -5,8 +5,8 @@ use mathlib.Core.List.{List}
 use lib.ListN.{take, drop}
 use Rattle.plan.specs.declared.Verdict.{Verdict}
 use Rattle.plan.specs.declared.Verdict.the-variants.{Accepted, Refused}
-use Rattle.blocks.specs.Format.{Edition, payload-at, check-at}
-use Rattle.blocks.specs.Held.{place}
+use Rattle.format.specs.Format.{Edition, payload-at, check-at}
+use Rattle.format.specs.Held.{place}
 use Rattle.file.specs.Answer.{judged-block, payload-of}
 
 -- a part of a file, and the verdict that it goes with

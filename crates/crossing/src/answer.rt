@@ -1,11 +1,11 @@
 // An answer as C reads it, and how each request's answer crosses. Internal: what crosses must fit.
-use blocks::Block;
+use format::Block;
 use plan::Verdict;
 ghost use mathlib.Core.Path.{_≡_};
 ghost use Prim.Native.Nat.{_≤_, _<_};
 ghost use lib.IntN.{pos};
 ghost use Rattle.plan.specs.Limits.{most-arcs};
-ghost use Rattle.blocks.specs.Format.{first-edition};
+ghost use Rattle.format.specs.Format.{first-edition};
 ghost use Rattle.file.specs.Answer.{arcs-read, written-length};
 ghost use Rattle.crossing.specs.Payload.{part-of};
 ghost use Rattle.crossing.specs.Crossing.{crossing, flow-reading, reason-reading, held-reading, verdict-reading, read-reading, written-reading, payload-reading};

@@ -10,8 +10,8 @@ use lib.Dec.{eqb}
 use borrow.Author.Tests.{eq-eqb, eqb-true}
 use Rattle.numbers.specs.Sums.{sum, only, sum-in, put}
 use Rattle.numbers.proofs.Sums.{sum-same, sum-change, put-there, put-elsewhere, sum-in-put}
-use Rattle.engine.specs.Room.{side, crossing}
-use Rattle.engine.specs.Move.{Pushed, Handed, Less, Paid, MovedOn}
+use Rattle.rooms.specs.Room.{side, crossing}
+use Rattle.rooms.specs.Move.{Pushed, Handed, Less, Paid, MovedOn}
 use Rattle.engine.specs.Sweep.{Swept}
 
 only-add : (t : Bool) (a b : ℕ) → only t (a + b) ≡ only t a + only t b

@@ -1,5 +1,2 @@
-pub mod Cells
 pub mod Account
-pub mod SearchLog
-pub mod SearchLoop
 pub mod Sweeping

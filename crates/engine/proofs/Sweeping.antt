@@ -9,10 +9,10 @@ use native.Mathlib.Omega.{arith}
 use native.Mathlib.Decide.{ℕ-discrete, decLt}
 use Rattle.numbers.specs.Sums.{sum, put}
 use Rattle.numbers.proofs.Sums.{sum-le, sum-member, sum-in-put, put-elsewhere}
-use Rattle.engine.specs.Room.{Small, Kept, Lent, SameLengths}
+use Rattle.rooms.specs.Room.{Small, Kept, Lent, SameLengths}
 use Rattle.engine.specs.Sweep.{Turned, Trail, OffTrail, FirstLack}
-use Rattle.engine.specs.Reach.{Log}
-use Rattle.engine.specs.Searched.{Desk}
+use Rattle.reach.specs.Reach.{Log}
+use Rattle.reach.specs.Searched.{Desk}
 
 -- ---- states one after the other
 

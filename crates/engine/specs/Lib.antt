@@ -1,7 +1,3 @@
--- What the engine works on and what its parts promise: rooms between nodes, accounts that stay, the reach of a set.
-pub mod Room
-pub mod Reach
-pub mod Searched
-pub mod Move
+-- What a sweep does, and what settling leaves.
 pub mod Sweep
 pub mod Settle

@@ -4,8 +4,8 @@ use Prim.Native.Nat.{ℕ, _≤_, _<_}
 use mathlib.Core.Path.{_≡_}
 use mathlib.Core.Bool.{true}
 use mathlib.Core.List.{List}
-use Rattle.engine.specs.Room.{at, Kept}
-use Rattle.engine.specs.Reach.{Reach, marked}
+use Rattle.rooms.specs.Room.{at, Kept}
+use Rattle.reach.specs.Reach.{Reach, marked}
 
 pub record Settled (n : ℕ) (room : ℕ → ℕ → ℕ) (over under : ℕ → ℕ) (room′ : ℕ → ℕ → ℕ) (over′ under′ : ℕ → ℕ) (u v : ℕ) (marks : List ℕ) : Type 0 where
   pub kept : Kept n room over under room′ over′ under′

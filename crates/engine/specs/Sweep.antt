@@ -3,7 +3,7 @@
 use Prim.Native.Nat.{ℕ, _≤_, _<_}
 use mathlib.Core.Path.{_≡_}
 use Rattle.numbers.specs.Sums.{sum}
-use Rattle.engine.specs.Room.{Kept}
+use Rattle.rooms.specs.Room.{Kept}
 
 pub record Swept (n : ℕ) (room : ℕ → ℕ → ℕ) (over under : ℕ → ℕ) (room′ : ℕ → ℕ → ℕ) (over′ under′ : ℕ → ℕ) (y : ℕ) : Type 0 where
   pub kept : Kept n room over under room′ over′ under′

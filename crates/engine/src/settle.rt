@@ -1,11 +1,11 @@
 // Settling: searches and sweeps by turns, until nothing that is over can reach what lacks.
-use crate::rooms::Rooms;
-use crate::search::search;
 use crate::sweep::sweep;
+use reach::search;
+use rooms::Rooms;
 ghost use Prim.Native.Nat.{ℕ, _≤_, _<_};
 ghost use lib.ListN.{length};
-ghost use Rattle.engine.specs.Room.{at, seen, Small, Lent};
-ghost use Rattle.engine.specs.Searched.{Desk};
+ghost use Rattle.rooms.specs.Room.{at, seen, Small, Lent};
+ghost use Rattle.reach.specs.Searched.{Desk};
 ghost use Rattle.engine.specs.Sweep.{FirstLack};
 ghost use Rattle.engine.specs.Settle.{Settled};
 

@@ -1,17 +1,17 @@
 // The sweep: from the last node of a log to the first, what lacks at a node is moved on to the node that
 // found it, at most the room; at a start it is paid by what is over there. Each move is legal by its own
 // least number, and no path is spoken of.
-use crate::rooms::hand;
-use crate::rooms::lesser;
-use crate::rooms::push;
-use crate::rooms::room_of;
-use crate::rooms::take;
+use rooms::hand;
+use rooms::lesser;
+use rooms::push;
+use rooms::room_of;
+use rooms::take;
 ghost use mathlib.Core.Path.{_≡_};
 ghost use Prim.Native.Nat.{ℕ, _+_, _*_, _^_, _≤_, _<_};
 ghost use lib.ListN.{length};
 ghost use Rattle.numbers.specs.Sums.{sum};
-ghost use Rattle.engine.specs.Room.{side, at, seen, Small, Kept, Lent};
-ghost use Rattle.engine.specs.Move.{Paid, MovedOn};
+ghost use Rattle.rooms.specs.Room.{side, at, seen, Small, Kept, Lent};
+ghost use Rattle.rooms.specs.Move.{Paid, MovedOn};
 ghost use Rattle.engine.specs.Sweep.{Turned, Trail, OffTrail};
 
 // What is over at y pays for what lacks there.

@@ -1,4 +1,3 @@
-pub mod Places
 pub mod Unique
 pub mod OneFile
 pub mod RoundTrip

@@ -16,13 +16,13 @@ use Rattle.plan.specs.Plan.{Plan, WellFormed}
 use Rattle.plan.specs.Keeping.{SamePlan}
 use Rattle.plan.proofs.Refusals.{well-formed-limits}
 use Rattle.plan.proofs.Alike.{limits-alike}
-use Rattle.blocks.specs.Format.{Edition, first-edition, block-size, payload-at, check-at, digit, blocks-of, kind-of, first-count, second-count, content-end, label-byte, content-byte, body-byte, block-byte, check-of, file-byte, file-length, FileOf}
-use Rattle.blocks.specs.Held.{one, two, place, byte, record-at, held, Bytes}
+use Rattle.format.specs.Format.{Edition, first-edition, block-size, payload-at, check-at, digit, blocks-of, kind-of, first-count, second-count, content-end, label-byte, content-byte, body-byte, block-byte, check-of, file-byte, file-length, FileOf}
+use Rattle.format.specs.Held.{one, two, place, byte, record-at, held, Bytes}
 use Rattle.blocks.specs.Rules.{blocks-in, FileAccepted}
 use Rattle.blocks.specs.Sound.{Shaped, Contained, Sound}
-use Rattle.blocks.proofs.Digits.{Unpacked, packed-back, packed-there, supply-back, supply-there}
+use Rattle.format.proofs.Digits.{Unpacked, packed-back, packed-there, supply-back, supply-there}
 use Rattle.blocks.proofs.Accepted.{reading-accepted, accepted-reading, sound-long}
-use Rattle.file.proofs.Places.{record-place, file-at, body-label, body-content, body-unused, check-same, inside-arcs}
+use Rattle.format.proofs.Places.{record-place, file-at, body-label, body-content, body-unused, check-same, inside-arcs}
 
 -- ---- a network has one file, in every edition
 

@@ -20,8 +20,8 @@ use Rattle.plan.proofs.Refusals.{accepted-or-refused, accepted-well-formed, acc
 use Rattle.plan.proofs.Alike.{counts-alike, limits-alike}
 use Rattle.lists.specs.Written.{SuppliesWritten, ArcsWritten}
 use Rattle.lists.proofs.Same.{written-plan, supplies-alike, arcs-alike}
-use Rattle.blocks.specs.Format.{first-edition, block-size, payload-at, check-at, digit, unsigned, content-end, content-byte, body-byte, block-byte, file-length, FileOf}
-use Rattle.blocks.specs.Held.{held, Bytes}
+use Rattle.format.specs.Format.{first-edition, block-size, payload-at, check-at, digit, unsigned, content-end, content-byte, body-byte, block-byte, file-length, FileOf}
+use Rattle.format.specs.Held.{held, Bytes}
 use Rattle.blocks.specs.Rules.{lent-short, FileAccepted}
 use Rattle.blocks.proofs.Order.{accepted-both, lent-fits}
 use Rattle.blocks.proofs.Accepted.{reading-accepted, accepted-reading, counted-accepted}
@@ -30,7 +30,7 @@ use Rattle.file.specs.declared.Answer.{Answer}
 use Rattle.file.specs.declared.Answer.the-variants.{Read, Refused}
 use Rattle.file.specs.declared.Written.{Written}
 use Rattle.file.specs.declared.Written.the-variants.{Length, Refused as NotWritten}
-use Rattle.file.proofs.Places.{body-label, body-content, body-unused, check-same, inside-head, inside-arcs}
+use Rattle.format.proofs.Places.{body-label, body-content, body-unused, check-same, inside-head, inside-arcs}
 use Rattle.file.proofs.OneFile.{network-has-one-file, sound-is-the-file, accepted-is-the-file, file-accepted}
 
 -- ---- plans that agree have one file

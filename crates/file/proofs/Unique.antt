@@ -14,8 +14,8 @@ use Rattle.plan.specs.declared.Verdict.the-variants.{Accepted, Refused as Turne
 use Rattle.plan.proofs.Refusals.{accepted-or-refused}
 use Rattle.lists.proofs.Entries.{entries-unique}
 use Rattle.lists.proofs.Arcs.{arcs-unique}
-use Rattle.blocks.specs.Format.{Edition, payload-at, check-at}
-use Rattle.blocks.specs.Held.{place}
+use Rattle.format.specs.Format.{Edition, payload-at, check-at}
+use Rattle.format.specs.Held.{place}
 use Rattle.blocks.specs.Rules.{payload-rules}
 use Rattle.file.specs.Answer.{ReadAnswers, WriteAnswers, verdict-number, judged-block, shown, payload-of}
 use Rattle.file.specs.declared.Answer.{Answer}

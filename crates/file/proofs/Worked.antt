@@ -2,7 +2,7 @@
 use mathlib.Core.Path.{_≡_, refl}
 use lib.IntN.{pos}
 use Rattle.plan.specs.Plan.{Plan}
-use Rattle.blocks.specs.Format.{first-edition, weighted, blocks-of, body-byte, check-of, file-length}
+use Rattle.format.specs.Format.{first-edition, weighted, blocks-of, body-byte, check-of, file-length}
 
 -- one node, supply 0, no arcs
 abbrev p13 : Plan

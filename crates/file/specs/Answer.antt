@@ -10,8 +10,8 @@ use Rattle.plan.specs.Verdict.{verdict, network-rules}
 use Rattle.plan.specs.declared.Verdict.{Verdict}
 use Rattle.plan.specs.declared.Verdict.the-variants.{Accepted, Refused as TurnedDown}
 use Rattle.lists.specs.Written.{EntriesWritten, SuppliesWritten, ArcsWritten}
-use Rattle.blocks.specs.Format.{Edition, payload-at, check-at, file-length, file-byte}
-use Rattle.blocks.specs.Held.{place, held}
+use Rattle.format.specs.Format.{Edition, payload-at, check-at, file-length, file-byte}
+use Rattle.format.specs.Held.{place, held}
 use Rattle.blocks.specs.Rules.{reading-rules, payload-rules, lent-short}
 use Rattle.file.specs.declared.Answer.{Answer}
 use Rattle.file.specs.declared.Answer.the-variants.{Read, Refused}

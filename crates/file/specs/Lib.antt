@@ -1,3 +1,2 @@
 -- What reading, writing and the requests for a payload promise.
-pub mod Records
 pub mod Answer

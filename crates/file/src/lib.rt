@@ -1,11 +1,6 @@
-// The plan file: a network in blocks of 512 bytes. `reading` and `writing` go between a file and a
-// network, `payload` shows a part of a file. proofs/ has the theorems that a network has one file and that
-// an accepted file is the file of its network. It uses `blocks` for the format, and `plan`.
-pub mod filling;
-pub mod payload;
-pub mod reading;
-pub mod writing;
-
+// The plan file: what reading and writing answer, and what they promise (specs/). proofs/ has the theorems that a network
+// has one file, that an accepted file is the file of its network, and that reading and writing go back and forth. It uses
+// `format`, `blocks` and `plan`.
 // What reading gives: the node count and the arc count, or a number of document 01 with its place.
 pub enum Answer {
     Read(usize, usize),

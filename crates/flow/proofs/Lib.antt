@@ -1,4 +1,3 @@
-pub mod Marking
 pub mod Unique
 pub mod Demand3
 pub mod Answering

@@ -7,7 +7,7 @@ use native.Mathlib.Omega.{arith}
 use lib.IntN.{ℤ}
 use lib.ListN.{length}
 use Rattle.numbers.specs.Sums.{only}
-use Rattle.engine.specs.Room.{at}
+use Rattle.rooms.specs.Room.{at}
 use Rattle.plan.specs.Plan.{Plan}
 use Rattle.plan.specs.Flow.{Flow}
 use Rattle.plan.specs.declared.Verdict.the-variants.{Accepted}
@@ -16,7 +16,7 @@ use Rattle.plan.proofs.Checked.{accepted-plan}
 use Rattle.plan.proofs.Unique.{first-flow-unique, shortage-unique, short-by-unique, short-or-flow}
 use Rattle.plan.proofs.EitherEnd.{no-marks-alike}
 use Rattle.lists.proofs.Entries.{one-content}
-use Rattle.stand.proofs.Writing.{written-unique}
+use Rattle.lists.proofs.Writing.{written-unique}
 use Rattle.flow.specs.Answer.{number, judged, Lacking, FlowAnswers}
 use Rattle.flow.specs.declared.Answer.{Answer}
 use Rattle.flow.specs.declared.Answer.the-variants.{Runs, Short, Refused}

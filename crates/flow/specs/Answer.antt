@@ -5,7 +5,7 @@ use mathlib.Core.List.{List}
 use lib.IntN.{ℤ, pos}
 use lib.ListN.{length}
 use Rattle.numbers.specs.Sums.{only}
-use Rattle.engine.specs.Room.{at}
+use Rattle.rooms.specs.Room.{at}
 use Rattle.plan.specs.Plan.{Plan, Set}
 use Rattle.plan.specs.Verdict.{verdict, network-rules, lent-short}
 use Rattle.plan.specs.Flow.{FirstFlow}
@@ -13,7 +13,7 @@ use Rattle.plan.specs.Shortage.{ShortBy}
 use Rattle.plan.specs.Reason.{no-marks}
 use Rattle.plan.specs.declared.Verdict.{Verdict}
 use Rattle.plan.specs.declared.Verdict.the-variants.{Accepted, Refused as TurnedDown}
-use Rattle.stand.specs.Written.{Written}
+use Rattle.lists.specs.Written.{Written}
 use Rattle.stand.specs.declared.Asked.{Asked}
 use Rattle.stand.specs.declared.Asked.the-variants.{Balances, Lacks}
 use Rattle.flow.specs.declared.Answer.{Answer}

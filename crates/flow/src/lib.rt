@@ -1,7 +1,5 @@
 // The flow question: can the shift run, and how; or what is short, where, and by which limits. It uses
-// `plan` for what is meant and `stand` for working it out. `question` is the request; `marks` is internal,
-// and its functions have `requires`.
-pub mod marks;
+// `plan` for what is meant, `stand` for working it out and `marks` for the limits that it cites. `question` is the request.
 pub mod question;
 
 use stand::Asked;

@@ -1,20 +1,20 @@
 // The flow question of document 01, for every input.
 use crate::Answer;
-use crate::marks::mark_arcs;
-use crate::marks::mark_nodes;
-use engine::rooms::Rooms;
+use first::first_flow;
+use marks::mark_arcs;
+use marks::mark_nodes;
+use network::check;
+use network::too_short;
 use plan::Arc;
 use plan::Plan;
 use plan::Verdict;
-use plan::network::check;
-use plan::network::too_short;
+use rooms::Rooms;
 use stand::Asked;
 use stand::ask::ask;
-use stand::first::first_flow;
 ghost use mathlib.Core.Path.{_≡_};
 ghost use Prim.Native.Nat.{ℕ, _≤_, _/_};
 ghost use lib.ListN.{length};
-ghost use Rattle.engine.specs.Room.{at, Lent};
+ghost use Rattle.rooms.specs.Room.{at, Lent};
 ghost use Rattle.plan.specs.Limits.{arc-entries};
 ghost use Rattle.plan.specs.Plan.{WellFormed, plan-of};
 ghost use Rattle.flow.specs.Answer.{Told, FlowAnswers};

@@ -6,7 +6,7 @@ use mathlib.Core.List.{List}
 use mathlib.Core.Logic.{_↔_}
 use native.Mathlib.Omega.{arith}
 use lib.IntN.{ℤ}
-use Rattle.engine.specs.Room.{at}
+use Rattle.rooms.specs.Room.{at}
 use Rattle.plan.specs.Plan.{Plan, Set}
 use Rattle.plan.specs.Flow.{Flow, Occurs, Narrowed, FirstWith}
 use Rattle.plan.specs.Shortage.{ShortBy}

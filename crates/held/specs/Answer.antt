@@ -5,7 +5,7 @@ use mathlib.Core.List.{List}
 use lib.Dec.{leb, ltb}
 use lib.IntN.{ℤ, pos}
 use lib.ListN.{length}
-use Rattle.engine.specs.Room.{at}
+use Rattle.rooms.specs.Room.{at}
 use Rattle.plan.specs.Plan.{Plan, Set}
 use Rattle.plan.specs.Verdict.{verdict, asking-rules}
 use Rattle.plan.specs.Flow.{OutsideRange, FirstWith}

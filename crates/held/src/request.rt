@@ -1,21 +1,21 @@
 // The request of document 01 for an arc held at a count, for every input.
 use crate::Answer;
-use engine::rooms::Rooms;
+use first::first_flow;
+use network::check_asked;
+use one_arc::counts::hold_at;
+use one_arc::ends::end_for;
 use plan::Plan;
 use plan::Verdict;
-use plan::network::check_asked;
+use rooms::Rooms;
 use stand::Asked;
 use stand::ask::ask;
 use stand::build::arc_at;
-use stand::counts::hold_at;
-use stand::ends::end_for;
-use stand::first::first_flow;
 ghost use mathlib.Core.Path.{_≡_};
 ghost use mathlib.Core.Bool.{true, false, _||_};
 ghost use Prim.Native.Nat.{ℕ, _≤_, _<_, _/_};
 ghost use lib.Dec.{ltb};
 ghost use lib.ListN.{length};
-ghost use Rattle.engine.specs.Room.{at, seen, Lent};
+ghost use Rattle.rooms.specs.Room.{at, seen, Lent};
 ghost use Rattle.plan.specs.Limits.{arc-entries};
 ghost use Rattle.plan.specs.Plan.{WellFormed, plan-of};
 ghost use Rattle.plan.specs.Flow.{OutsideRange, held};

@@ -10,8 +10,8 @@ use lib.ListN.{length}
 use borrow.Author.Tests.{ltb-false}
 use Rattle.plan.specs.Limits.{arc-entries}
 use Rattle.plan.proofs.Refusals.{accepted-clear, neither}
-use Rattle.blocks.specs.Format.{Edition}
-use Rattle.blocks.specs.Held.{held}
+use Rattle.format.specs.Format.{Edition}
+use Rattle.format.specs.Held.{held}
 use Rattle.blocks.specs.Rules.{reading-rules, lent-short}
 use Rattle.file.specs.Answer.{ReadAnswers}
 use Rattle.file.specs.declared.Answer.the-variants.{Read}

@@ -1,13 +1,13 @@
 // The listing of document 01: reads one plan file on standard input, and prints what the unit says of its plan.
 // A thin program: `file` reads, `flow` and `narrow` answer, `say` prints.
-use blocks::Edition;
-use file::reading::read;
 use flow::Answer;
 use flow::question::question;
+use format::Edition;
 use libc::STDIN_FILENO;
 use narrow::request::narrow;
 use plan::Arc;
 use plan::Plan;
+use reading::read;
 ghost use Prim.Native.Nat.{_*_, _/_, _≤_, _<_};
 ghost use lib.ListN.{length};
 ghost use Rattle.plan.specs.Limits.{most-arcs, arc-entries};

@@ -1,3 +1,4 @@
 pub mod Entries
 pub mod Arcs
 pub mod Same
+pub mod Writing

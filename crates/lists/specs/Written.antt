@@ -7,6 +7,11 @@ use lib.ListN.{length, getD}
 use Rattle.plan.specs.Limits.{arc-entries}
 use Rattle.plan.specs.Plan.{Plan}
 
+-- a number for each of the first n entries, and nothing at or past them
+pub record Written (values : ℕ → ℕ) (n : ℕ) (buffer buffer′ : List ℕ) : Type 0 where
+  pub there : (i : ℕ) → i < n → getD buffer′ i 0 ≡ values i
+  pub past : (i : ℕ) → n ≤ i → getD buffer′ i 0 ≡ getD buffer i 0
+
 -- something holds of each of the first n entries; `other` is what is read past the end
 pub record EntriesHold {A : Type 0} (other : A) (holds : ℕ → A → Type 0) (n : ℕ) (list list′ : List A) : Type 0 where
   pub same-length : length list′ ≡ length list

@@ -3,7 +3,7 @@ use Prim.Native.Nat.{ℕ, _≤_, _<_}
 use mathlib.Core.Path.{_≡_}
 use mathlib.Core.Bool.{true, false}
 use mathlib.Core.List.{List}
-use Rattle.engine.specs.Room.{at}
+use Rattle.rooms.specs.Room.{at}
 use Rattle.plan.specs.Plan.{Plan, WellFormed}
 use Rattle.plan.specs.Flow.{Narrowed}
 use Rattle.plan.specs.Reason.{NarrowedEnd}

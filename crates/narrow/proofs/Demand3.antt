@@ -3,7 +3,7 @@
 use Prim.Native.Nat.{ℕ, _≤_, _<_}
 use mathlib.Core.List.{List}
 use native.Mathlib.Omega.{arith}
-use Rattle.engine.specs.Room.{at}
+use Rattle.rooms.specs.Room.{at}
 use Rattle.plan.specs.Plan.{Plan}
 use Rattle.plan.specs.Keeping.{SameNetwork, RangesWithin}
 use Rattle.plan.proofs.Demand3.{demand-3-ranges}

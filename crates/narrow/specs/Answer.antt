@@ -3,7 +3,7 @@ use Prim.Native.Nat.{ℕ, _≤_, _<_}
 use mathlib.Core.Path.{_≡_}
 use mathlib.Core.List.{List}
 use lib.ListN.{length}
-use Rattle.engine.specs.Room.{at}
+use Rattle.rooms.specs.Room.{at}
 use Rattle.plan.specs.Plan.{Plan, Set}
 use Rattle.plan.specs.Verdict.{verdict, network-rules, lent-short}
 use Rattle.plan.specs.Flow.{HasFlow, Occurs, Narrowed}

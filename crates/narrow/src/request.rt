@@ -1,19 +1,19 @@
 // The narrowing request of document 01, for every input.
-use engine::rooms::Rooms;
 use flow::Answer;
+use network::check;
+use network::too_short;
+use one_arc::ends::end_for;
 use plan::Arc;
 use plan::Plan;
 use plan::Verdict;
-use plan::network::check;
-use plan::network::too_short;
+use rooms::Rooms;
 use stand::Asked;
 use stand::ask::ask;
-use stand::ends::end_for;
 ghost use mathlib.Core.Path.{_≡_};
 ghost use mathlib.Core.Bool.{false};
 ghost use Prim.Native.Nat.{ℕ, _≤_, _<_, _/_};
 ghost use lib.ListN.{length};
-ghost use Rattle.engine.specs.Room.{at, seen, Lent};
+ghost use Rattle.rooms.specs.Room.{at, seen, Lent};
 ghost use Rattle.plan.specs.Limits.{arc-entries};
 ghost use Rattle.plan.specs.Plan.{WellFormed, plan-of};
 ghost use Rattle.plan.specs.Reason.{NarrowedEnd};

@@ -10,7 +10,6 @@ pub mod EitherEnd
 pub mod Demand3
 pub mod Alike
 pub mod Refusals
-pub mod Wrong
 pub mod Narrowing
 pub mod First
 pub mod Sets

@@ -1,7 +1,5 @@
-// The plan: its types with their limits, and the check of a network. specs/ has document 01 as
-// definitions; proofs/ has the theorems over them and the table of worked plans. It uses `numbers`.
-pub mod network;
-
+// The plan: its types with their limits. specs/ has document 01 as definitions; proofs/ has the theorems over them and the
+// table of worked plans. It uses `numbers`.
 ghost use mathlib.Core.Path.{_≡_};
 ghost use Prim.Native.Nat.{_/_};
 ghost use lib.IntN.{pos};

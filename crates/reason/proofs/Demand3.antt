@@ -2,7 +2,7 @@
 -- marked at least as tight passes the narrowed end.
 use Prim.Native.Nat.{ℕ, _≤_}
 use mathlib.Core.List.{List}
-use Rattle.engine.specs.Room.{at}
+use Rattle.rooms.specs.Room.{at}
 use Rattle.plan.specs.Plan.{Plan, WellFormed}
 use Rattle.plan.specs.Flow.{Flow}
 use Rattle.plan.specs.Keeping.{SameNetwork, Keeps}

@@ -4,15 +4,16 @@ use mathlib.Core.Path.{_≡_, subst}
 use mathlib.Core.Bool.{Bool, true, false, cond}
 use mathlib.Core.List.{List}
 use native.Mathlib.Omega.{arith}
-use Rattle.engine.specs.Room.{at, seen}
-use Rattle.engine.specs.Reach.{marked}
+use Rattle.rooms.specs.Room.{at, seen}
+use Rattle.reach.specs.Reach.{marked}
 use Rattle.across.specs.Raise.{Raised}
 use Rattle.plan.specs.Plan.{Plan, WellFormed}
 use Rattle.plan.specs.Reason.{own-end, NarrowedEnd, end-marks}
 use Rattle.stand.specs.State.{Ready}
-use Rattle.stand.specs.Written.{Written}
-use Rattle.stand.proofs.OneArc.{own-standing, standing-loop, facing-end, facing-reason}
-use Rattle.stand.proofs.Writing.{written-alike, plain-mark}
+use Rattle.lists.specs.Written.{Written}
+use Rattle.one_arc.proofs.OneArc.{own-standing, standing-loop, facing-end, facing-reason}
+use Rattle.lists.proofs.Writing.{written-alike}
+use Rattle.marks.proofs.Marking.{plain-mark}
 use Rattle.reason.specs.Answer.{Cited}
 use Rattle.reason.specs.Freed.{Freed}
 

@@ -17,7 +17,7 @@ use Rattle.plan.specs.declared.Verdict.the-variants.{Accepted}
 use Rattle.plan.proofs.Refusals.{accepted-or-refused}
 use Rattle.plan.proofs.Unique.{short-by-unique, short-or-flow}
 use Rattle.plan.proofs.EitherEnd.{end-unique, end-occurs, end-or-short, reason-end, reason-moved, end-set-unique, end-marks-alike}
-use Rattle.stand.proofs.Writing.{written-unique}
+use Rattle.lists.proofs.Writing.{written-unique}
 use Rattle.reason.specs.Answer.{number, is-high, judged, Cited, ReasonAnswers}
 use Rattle.reason.specs.declared.Answer.{Answer}
 use Rattle.reason.specs.declared.Answer.the-variants.{Stands, Moved, Short, Refused}

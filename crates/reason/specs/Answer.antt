@@ -13,7 +13,7 @@ use Rattle.plan.specs.Shortage.{ShortBy}
 use Rattle.plan.specs.Reason.{own-end, NarrowedEnd, EndReason, end-marks}
 use Rattle.plan.specs.declared.Verdict.{Verdict}
 use Rattle.plan.specs.declared.Verdict.the-variants.{Accepted, Refused as TurnedDown}
-use Rattle.stand.specs.Written.{Written}
+use Rattle.lists.specs.Written.{Written}
 use Rattle.stand.specs.declared.Asked.{Asked}
 use Rattle.stand.specs.declared.Asked.the-variants.{Balances, Lacks}
 use Rattle.reason.specs.declared.Answer.{Answer}

@@ -2,8 +2,8 @@
 use Prim.Native.Nat.{ℕ, _+_, _-_, _≤_, _<_}
 use mathlib.Core.Bool.{Bool, cond}
 use mathlib.Core.List.{List}
-use Rattle.engine.specs.Room.{at}
-use Rattle.engine.specs.Reach.{marked}
+use Rattle.rooms.specs.Room.{at}
+use Rattle.reach.specs.Reach.{marked}
 use Rattle.plan.specs.Plan.{Plan}
 use Rattle.plan.specs.Reason.{NarrowedEnd, EndReason}
 

@@ -10,8 +10,8 @@ use lib.ListN.{replicate}
 use Rattle.numbers.specs.Sums.{sum}
 use Rattle.numbers.proofs.Parts.{whole}
 use Rattle.numbers.proofs.Sums.{sum-member}
-use Rattle.engine.specs.Room.{at, crossing, Small}
-use Rattle.engine.specs.Reach.{Closed, marked}
+use Rattle.rooms.specs.Room.{at, crossing, Small}
+use Rattle.reach.specs.Reach.{Closed, marked}
 use Rattle.engine.specs.Settle as E
 use Rattle.engine.proofs.Sweeping.{kept-small}
 use Rattle.across.proofs.Raising.{crossing-closed, crossing-member}

@@ -18,16 +18,16 @@ use Rattle.numbers.specs.Sums.{sum, only, sum-in}
 use Rattle.numbers.specs.Parts.{plus, minus}
 use Rattle.numbers.proofs.Parts.{whole, add, magnitude}
 use Rattle.numbers.proofs.Sums.{last-or-before, sum-same, sum-in-same, sum-in-add, sum-in-gathered}
-use Rattle.engine.specs.Room.{side, at, cell, crossing, Small, Lent}
-use Rattle.engine.specs.Move.{Less}
-use Rattle.engine.proofs.Cells.{cell-first, cell-second}
+use Rattle.rooms.specs.Room.{side, at, cell, crossing, Small, Lent}
+use Rattle.rooms.specs.Move.{Less}
+use Rattle.rooms.proofs.Cells.{cell-first, cell-second}
 use Rattle.plan.specs.Limits.{most-arcs, most-supply, widest-high}
 use Rattle.plan.specs.Plan.{Plan, Set, WellFormed}
 use Rattle.plan.specs.Flow.{total, out, into}
 use Rattle.plan.specs.Shortage.{leaves, shortfall}
 use Rattle.plan.proofs.Cut.{shortfall-parts, cut-identity, joined}
 use Rattle.stand.specs.State.{widths, Represents}
-use Rattle.stand.specs.Written.{Written}
+use Rattle.lists.specs.Written.{Written}
 
 -- ---- supplies
 

@@ -12,7 +12,7 @@ use lib.Signed.{_≤ℤ_}
 use Rattle.numbers.specs.Sums.{sum, sum-in}
 use Rattle.numbers.proofs.Parts.{whole, add}
 use Rattle.numbers.proofs.Sums.{sumℤ-parts, sum-in-zero}
-use Rattle.engine.specs.Room.{seen, crossing, Small, Kept}
+use Rattle.rooms.specs.Room.{seen, crossing, Small, Kept}
 use Rattle.across.specs.Raise.{Balanced, NoneShort, Splits, Free, Still}
 use Rattle.across.proofs.Raising.{crossing-all, crossing-turned}
 use Rattle.plan.specs.Plan.{Plan, Set, WellFormed}

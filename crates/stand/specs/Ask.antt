@@ -3,8 +3,8 @@ use Prim.Native.Nat.{ℕ, _≤_, _<_}
 use mathlib.Core.Path.{_≡_}
 use mathlib.Core.List.{List}
 use lib.IntN.{ℤ}
-use Rattle.engine.specs.Room.{at}
-use Rattle.engine.specs.Reach.{marked}
+use Rattle.rooms.specs.Room.{at}
+use Rattle.reach.specs.Reach.{marked}
 use Rattle.plan.specs.Plan.{Plan}
 use Rattle.plan.specs.Shortage.{ShortBy}
 use Rattle.stand.specs.State.{Ready}

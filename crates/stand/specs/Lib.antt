@@ -1,4 +1,3 @@
--- How a plan stands in the engine's numbers, what asking it shows, and what is written to a buffer.
+-- How a plan stands in the engine's numbers, and what asking it shows.
 pub mod State
-pub mod Written
 pub mod Ask

@@ -8,7 +8,7 @@ use lib.Dec.{eqb}
 use lib.IntN.{ℤ, pos, _+ℤ_}
 use lib.ListN.{length}
 use Rattle.numbers.specs.Sums.{sum-in, put}
-use Rattle.engine.specs.Room.{crossing, Small}
+use Rattle.rooms.specs.Room.{crossing, Small}
 use Rattle.across.specs.Raise.{Balanced}
 use Rattle.plan.specs.Limits.{arc-entries}
 use Rattle.plan.specs.Plan.{Plan, Set, WellFormed, plan-of}

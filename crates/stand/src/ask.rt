@@ -8,7 +8,7 @@ ghost use Prim.Native.Nat.{ℕ, _≤_, _<_};
 ghost use lib.IntN.{pos};
 ghost use lib.ListN.{length};
 ghost use Rattle.numbers.specs.Sums.{sum};
-ghost use Rattle.engine.specs.Room.{at, seen, Lent};
+ghost use Rattle.rooms.specs.Room.{at, seen, Lent};
 ghost use Rattle.plan.specs.Limits.{most-nodes};
 ghost use Rattle.plan.specs.Plan.{WellFormed, plan-of};
 ghost use Rattle.stand.specs.Ask.{AskedOf};

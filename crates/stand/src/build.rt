@@ -1,19 +1,19 @@
 // A plan in the engine's numbers: every arc at its low, the rest of its width as room. Internal.
-use engine::rooms::add;
-use engine::rooms::place;
 use plan::Arc;
+use rooms::add;
+use rooms::place;
 ghost use mathlib.Core.Path.{_≡_};
 ghost use mathlib.Core.Bool.{false};
 ghost use Prim.Native.Nat.{ℕ, _+_, _-_, _*_, _/_, _^_, _≤_, _<_};
 ghost use lib.IntN.{pos, natAbs};
 ghost use lib.ListN.{length, getD};
 ghost use Rattle.numbers.specs.Parts.{plus, minus};
-ghost use Rattle.engine.specs.Room.{side, at, cell, seen, Small, Lent};
-ghost use Rattle.engine.specs.Move.{Less};
+ghost use Rattle.rooms.specs.Room.{side, at, cell, seen, Small, Lent};
+ghost use Rattle.rooms.specs.Move.{Less};
 ghost use Rattle.plan.specs.Limits.{most-supply, arc-entries};
 ghost use Rattle.plan.specs.Plan.{WellFormed, plan-of};
 ghost use Rattle.stand.specs.State.{Represents};
-ghost use Rattle.stand.specs.Written.{Written};
+ghost use Rattle.lists.specs.Written.{Written};
 
 // What a node of this supply has.
 fn has(supply: i32) -> u32

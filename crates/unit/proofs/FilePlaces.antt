@@ -14,8 +14,8 @@ use Rattle.plan.specs.Verdict.{whole, limit-rules}
 use Rattle.plan.specs.declared.Verdict.{Verdict}
 use Rattle.plan.specs.declared.Verdict.the-variants.{Accepted, Refused as TurnedDown}
 use Rattle.plan.proofs.Refusals.{neither, accepted-well-formed}
-use Rattle.blocks.specs.Format.{first-edition, block-size, payload-at, check-at, file-length}
-use Rattle.blocks.specs.Held.{place, held}
+use Rattle.format.specs.Format.{first-edition, block-size, payload-at, check-at, file-length}
+use Rattle.format.specs.Held.{place, held}
 use Rattle.blocks.specs.Rules.{blocks-in, length-wrong, content-rules, reading-rules, lent-short}
 use Rattle.blocks.specs.Sound.{Sound}
 use Rattle.blocks.proofs.Accepted.{reading-accepted}

@@ -29,8 +29,9 @@ use Rattle.held.specs.Answer as held
 use Rattle.held.specs.Answer.{HeldAnswers}
 use Rattle.held.specs.declared.Answer as held-declared
 use Rattle.held.specs.declared.Answer.the-variants as held-variants
-use Rattle.count.specs.Counting.{Counting, counting-of}
-use Rattle.count.specs.Answer.{Buffers, CountAnswers, NetworkAnswers, buffers-short, network-short, counting-rules, counting-verdict}
+use Rattle.counting.specs.Counting.{Counting, counting-of}
+use Rattle.counting.specs.Rules.{counting-rules}
+use Rattle.count.specs.Answer.{Buffers, CountAnswers, NetworkAnswers, buffers-short, network-short, counting-verdict}
 use Rattle.crossing.specs.Crossing.{verdict-place}
 
 -- a verdict's place, if it has one, is below the most arcs that a plan can have

@@ -15,7 +15,7 @@ use Rattle.held.specs.Answer.{HeldAnswers}
 use Rattle.held.proofs.Unique.{held-answers-unique}
 use Rattle.count.specs.Answer.{Buffers, CountAnswers, NetworkAnswers}
 use Rattle.count.proofs.Unique.{count-answers-unique, network-answers-unique}
-use Rattle.blocks.specs.Format.{Edition}
+use Rattle.format.specs.Format.{Edition}
 use Rattle.file.specs.Answer.{ReadAnswers, WriteAnswers}
 use Rattle.file.proofs.Unique.{read-answers-unique, write-answers-unique}
 use Rattle.crossing.specs.Payload.{PayloadAnswers}

@@ -1,8 +1,8 @@
 // The requests over a plan file, as C calls them.
 use crossing::answer::Answer;
-use file::payload::payload_number;
+use reading::payload::payload_number;
 ghost use Rattle.plan.specs.Plan.{plan-of};
-ghost use Rattle.blocks.specs.Format.{first-edition};
+ghost use Rattle.format.specs.Format.{first-edition};
 ghost use Rattle.file.specs.Answer.{ReadAnswers, WriteAnswers};
 ghost use Rattle.crossing.specs.Payload.{PayloadAnswers};
 ghost use Rattle.crossing.specs.Crossing.{Crosses, read-reading, written-reading, payload-reading};
@@ -13,7 +13,7 @@ ghost use Rattle.crossing.specs.Crossing.{Crosses, read-reading, written-readin
 pub extern "C" fn blenrop_file_read(file: &[u8], supplies: &mut [i32], arcs: &mut [u32]) -> Answer
     ensures { λ r. ⌜ Crosses read-reading (ReadAnswers first-edition (now (file .entry)) (now (supplies .entry)) (now (supplies .exit)) (now (arcs .entry)) (now (arcs .exit))) r ⌝ }
 {
-    Answer::of_read(file::reading::read(file, supplies, arcs))
+    Answer::of_read(reading::read(file, supplies, arcs))
 }
 
 // Writes the file of a network. Number 0: the buffer has it in its first bytes, as many as the value says. Any
@@ -22,7 +22,7 @@ pub extern "C" fn blenrop_file_read(file: &[u8], supplies: &mut [i32], arcs: &mu
 pub extern "C" fn blenrop_file_write(arcs: &[u32], supplies: &[i32], file: &mut [u8]) -> Answer
     ensures { λ r. ⌜ Crosses written-reading (WriteAnswers first-edition (plan-of (now (arcs .entry)) (now (supplies .entry))) (now (file .entry)) (now (file .exit))) r ⌝ }
 {
-    Answer::of_written(file::writing::write(arcs, supplies, file))
+    Answer::of_written(writing::write(arcs, supplies, file))
 }
 
 // Where the payload of a block stands in a file. Number 0: it starts at index and is value bytes long. Any

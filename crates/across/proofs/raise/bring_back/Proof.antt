@@ -1,7 +1,7 @@
 -- What lacks at b is moved on to a and paid there, and both keep every account.
 use Rattle.engine.proofs.Sweeping.{kept-on, two-members}
 use Rattle.engine.proofs.Account.{moved-swept, paid-swept}
-use Rattle.engine.specs.Room.{at}
+use Rattle.rooms.specs.Room.{at}
 use mathlib.Core.Path.{_≡_, sym}
 use native.Mathlib.Omega.{arith}
 use borrow.Author.Needs.{needs}

@@ -1,5 +1,5 @@
 -- What is taken off the pair's place shows at that pair alone.
-use Rattle.engine.proofs.Cells.{cell-bound, taken-off}
+use Rattle.rooms.proofs.Cells.{cell-bound, taken-off}
 use mathlib.Core.Bool.{false}
 use native.Mathlib.Omega.{arith}
 use borrow.Author.Needs.{needs}

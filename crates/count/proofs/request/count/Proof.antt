@@ -1,8 +1,9 @@
 -- The verdict is the definition's: 15 to 18 by the check, then 3; and what is accepted is worked out.
 use mathlib.Core.Path.{refl, sym, _∙_}
 use Rattle.plan.proofs.Refusals.{last-refused, last-wrong, last-passes}
-use Rattle.count.specs.Counting.{counting-of}
-use Rattle.count.specs.Answer.{Buffers, buffers-short, counting-rules}
+use Rattle.counting.specs.Counting.{counting-of}
+use Rattle.counting.specs.Rules.{counting-rules}
+use Rattle.count.specs.Answer.{Buffers, buffers-short}
 use borrow.Author.Needs.{needs}
 use Rattle.count.proofs.request.count.Statement.{statement}
 use Rattle.count.proofs.request.count.Tie as tie

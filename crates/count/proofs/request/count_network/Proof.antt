@@ -5,9 +5,10 @@ use lib.Dec.{ltb}
 use lib.ListN.{length}
 use borrow.Author.Tests.{ltb-false}
 use Rattle.plan.proofs.Refusals.{neither, last-refused, last-wrong, last-passes}
-use Rattle.count.specs.Counting.{counting-of}
-use Rattle.count.specs.Answer.{counting-rules, network-short}
-use Rattle.count.proofs.Refused.{accepted-network}
+use Rattle.counting.specs.Counting.{counting-of}
+use Rattle.counting.specs.Rules.{counting-rules}
+use Rattle.count.specs.Answer.{network-short}
+use Rattle.counting.proofs.Refused.{accepted-network}
 use borrow.Author.Needs.{needs}
 use Rattle.count.proofs.request.count_network.Statement.{statement}
 use Rattle.count.proofs.request.count_network.Tie as tie

@@ -1,10 +1,10 @@
 -- The loop reads one value a turn, from the last one down.
 use mathlib.Core.Path.{_≡_}
 use lib.Dec.{ltb}
-use Rattle.engine.specs.Room.{at}
-use Rattle.count.proofs.Grid.{only-most}
+use Rattle.rooms.specs.Room.{at}
+use Rattle.counting.proofs.Grid.{only-most}
 use Prim.Native.Nat.{_+_, _-_, _≤_}
-use Rattle.count.proofs.Words.{Built, built-none, built-fits, built-on, built-whole}
+use Rattle.count.proofs.Built.{Built, built-none, built-fits, built-on, built-whole}
 use borrow.Author.Needs.{needs}
 use native.Mathlib.Omega.{arith}
 use Rattle.count.proofs.request.domain_of.Statement.{statement}

@@ -1,7 +1,7 @@
 -- The network stands in the first entries of the two lists, and what narrowing answers of them it answers of the network.
 use mathlib.Core.Path.{refl}
 use native.Mathlib.Omega.{arith}
-use Rattle.count.specs.Counting.{counting-of}
+use Rattle.counting.specs.Counting.{counting-of}
 use Rattle.count.proofs.Asked.{drawn-alike, narrow-answers-alike}
 use borrow.Author.Needs.{needs}
 use Rattle.count.proofs.request.narrow_network.Statement.{statement}

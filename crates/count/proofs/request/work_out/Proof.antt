@@ -1,6 +1,6 @@
 -- Narrowing of the network either leaves early, or its ranges are read off into the three buffers.
 use native.Mathlib.Omega.{arith}
-use Rattle.count.specs.Counting.{counting-of}
+use Rattle.counting.specs.Counting.{counting-of}
 use Rattle.count.specs.Answer.{Buffers}
 use Rattle.count.proofs.Answering.{judged-network, domains-fit, lows-fit, highs-fit, counted, left-early}
 use borrow.Author.Needs.{needs}

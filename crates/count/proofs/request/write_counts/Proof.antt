@@ -1,10 +1,10 @@
 -- The loop writes one count a turn.
 use Prim.Native.Nat.{_+_, _-_, _≤_}
 use mathlib.Core.Path.{_≡_, refl}
-use Rattle.engine.specs.Room.{at}
+use Rattle.rooms.specs.Room.{at}
 use Rattle.lists.specs.Written.{EntriesWritten}
 use Rattle.lists.proofs.Entries.{entries-none, entries-on}
-use Rattle.stand.proofs.Writing.{written}
+use Rattle.lists.proofs.Writing.{written}
 use borrow.Author.Needs.{needs}
 use native.Mathlib.Omega.{arith}
 use Rattle.count.proofs.request.write_counts.Statement.{statement}

@@ -4,7 +4,7 @@ use mathlib.Core.Path.{_≡_}
 use Rattle.lists.specs.Written.{EntriesHold}
 use Rattle.lists.proofs.Entries.{entries-none, entry-holds}
 use Rattle.count.specs.Narrowed.{DomainOf}
-use Rattle.count.proofs.Grid.{row-within}
+use Rattle.counting.proofs.Grid.{row-within}
 use borrow.Author.Needs.{needs}
 use native.Mathlib.Omega.{arith}
 use Rattle.count.proofs.request.write_domains.Statement.{statement}

@@ -1,5 +1,5 @@
 -- Nothing lacks at the places passed.
-use Rattle.engine.specs.Room.{at}
+use Rattle.rooms.specs.Room.{at}
 use borrow.Author.Count.{below-more}
 use mathlib.Core.Path.{_≡_}
 use Prim.Native.Nat.{ℕ, _-_, _≤_, _<_}

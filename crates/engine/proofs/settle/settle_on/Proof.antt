@@ -1,7 +1,7 @@
 -- Each turn keeps every account and leaves less over; the last search shows that nothing lacks in the reach.
 use Prim.Native.Nat.{_≤_, _<_}
 use Rattle.engine.proofs.Sweeping.{kept-same, kept-on, kept-small, lent-still, desk-still, log-trail, shut-off-trail, none-lacks}
-use Rattle.engine.specs.Room.{at, seen, Kept, SameLengths}
+use Rattle.rooms.specs.Room.{at, seen, Kept, SameLengths}
 use Rattle.numbers.specs.Sums.{sum}
 use mathlib.Core.Path.{refl, _∙_}
 use native.Mathlib.Omega.{arith}

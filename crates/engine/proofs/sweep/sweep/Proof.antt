@@ -1,6 +1,6 @@
 -- From the last place to the first: less is over, or something lacks at a place not yet swept.
 use Rattle.engine.proofs.Sweeping.{Sweeping, kept-small, lent-still, sweep-begins, finder-node, finder-other, sweep-on, sweep-ends}
-use Rattle.engine.specs.Room.{at, seen, SameLengths}
+use Rattle.rooms.specs.Room.{at, seen, SameLengths}
 use mathlib.Core.Path.{_≡_, refl, subst, _∙_}
 use Prim.Native.Nat.{suc, _-_, _≤_}
 use borrow.Author.Needs.{needs}

@@ -1,7 +1,7 @@
 -- At a start what lacks is paid; elsewhere it is moved on to the finder, another node.
 use Rattle.engine.proofs.Sweeping.{two-members}
 use Rattle.engine.proofs.Account.{paid-swept, paid-falls, rooms-pushed, moved-swept}
-use Rattle.engine.specs.Room.{at}
+use Rattle.rooms.specs.Room.{at}
 use native.Mathlib.Omega.{arith}
 use borrow.Author.Needs.{needs}
 use Rattle.engine.proofs.sweep.turn.Statement.{statement}

@@ -2,9 +2,9 @@
 use mathlib.Core.Path.{refl}
 use mir.Facts.{toZ-ofZ}
 use mir.Syntax.{w64}
-use Rattle.flow.proofs.Marking.{marked-lacking}
+use Rattle.flow.proofs.Answering.{marked-lacking}
 use Rattle.plan.specs.Plan.{plan-of}
-use Rattle.stand.proofs.Firsts.{listed-whole}
+use Rattle.first.proofs.Firsts.{listed-whole}
 use Rattle.engine.proofs.Sweeping.{lent-still, still-fits}
 use native.Mathlib.Omega.{arith}
 use borrow.Author.Needs.{needs}

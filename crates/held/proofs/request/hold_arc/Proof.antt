@@ -1,6 +1,6 @@
 -- The arc's numbers are the plan's, so the plan has the arc held.
 use Rattle.plan.specs.Plan.{plan-of}
-use Rattle.stand.proofs.OneArc.{own-standing}
+use Rattle.one_arc.proofs.OneArc.{own-standing}
 use borrow.Author.Needs.{needs}
 use Rattle.held.proofs.request.hold_arc.Statement.{statement}
 use Rattle.held.proofs.request.hold_arc.Tie as tie

@@ -4,7 +4,7 @@ use mathlib.Core.Bool.{false}
 use mathlib.Core.Path.{_≡_, refl, _∙_}
 use lib.ListN.{length}
 use native.Mathlib.Omega.{arith}
-use Rattle.engine.specs.Room.{at, seen, SameLengths}
+use Rattle.rooms.specs.Room.{at, seen, SameLengths}
 use Rattle.engine.proofs.Sweeping.{lent-still, still-fits}
 use Rattle.plan.specs.Limits.{arc-entries}
 use Rattle.plan.specs.Plan.{plan-of}

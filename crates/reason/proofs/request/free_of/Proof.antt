@@ -1,7 +1,7 @@
 -- A self-loop is free in all its width; else what raising finds free is free.
 use mathlib.Core.Path.{_≡_, sym}
 use Rattle.plan.specs.Plan.{plan-of}
-use Rattle.stand.proofs.OneArc.{own-standing, standing-balanced, standing-from, standing-to, facing-small, facing-wide}
+use Rattle.one_arc.proofs.OneArc.{own-standing, standing-balanced, standing-from, standing-to, facing-small, facing-wide}
 use Rattle.reason.proofs.Freeing.{loop-freed, raised-freed}
 use borrow.Author.Needs.{needs}
 use Rattle.reason.proofs.request.free_of.Statement.{statement}

@@ -2,7 +2,7 @@
 use lib.IntN.{pos}
 use mir.ValLaws.{toZ-pos}
 use mir.Syntax.{w64}
-use Rattle.engine.specs.Room.{at}
+use Rattle.rooms.specs.Room.{at}
 use Rattle.numbers.specs.Sums.{sum}
 use native.Mathlib.Numerals.{add-one}
 use mathlib.Core.Path.{_≡_, refl, ap, _∙_}

@@ -6,7 +6,7 @@ use native.Mathlib.Omega.{arith}
 use native.Mathlib.Numerals.{add-one}
 use lib.ListN.{length}
 use borrow.Author.Needs.{needs}
-use Rattle.engine.specs.Room.{at, seen, Lent, SameLengths}
+use Rattle.rooms.specs.Room.{at, seen, Lent, SameLengths}
 use Rattle.engine.proofs.Sweeping.{lent-still}
 use Rattle.plan.specs.Limits.{arc-entries}
 use Rattle.plan.specs.Plan.{plan-of}

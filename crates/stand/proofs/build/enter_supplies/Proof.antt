@@ -11,7 +11,7 @@ use mir.Facts.{toZ-ofZ}
 use borrow.Author.Needs.{needs}
 use Rattle.numbers.specs.Parts.{plus, minus}
 use Rattle.plan.specs.Limits.{most-supply}
-use Rattle.stand.specs.Written.{Written}
+use Rattle.lists.specs.Written.{Written}
 use Rattle.stand.proofs.Building.{written-none, written-more}
 use Rattle.stand.proofs.build.enter_supplies.Statement.{statement}
 use Rattle.stand.proofs.build.enter_supplies.Tie as tie

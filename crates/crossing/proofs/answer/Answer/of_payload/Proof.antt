@@ -1,7 +1,7 @@
 -- The part of the block, or nothing; where it starts is small by the requires.
 use Prim.Native.Nat.{_≤_}
-use Rattle.blocks.specs.Format.{first-edition, payload-at}
-use Rattle.blocks.specs.Held.{place}
+use Rattle.format.specs.Format.{first-edition, payload-at}
+use Rattle.format.specs.Held.{place}
 use native.Mathlib.Omega.{arith}
 use borrow.Author.Needs.{needs}
 use Rattle.crossing.proofs.answer.Answer.of_payload.Statement.{statement}

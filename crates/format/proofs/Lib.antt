@@ -1,0 +1,4 @@
+pub mod Complement
+pub mod Digits
+pub mod Weighted
+pub mod Places

@@ -1,0 +1,82 @@
+// An end of an arc's narrowed range, and an arc held at a count: a page each over `across`. The state is
+// a plan's that has a flow, in balance, before and after. Internal.
+use across::raise::hold;
+use across::raise::measure;
+use across::raise::rebalance;
+ghost use mathlib.Core.Path.{_≡_};
+ghost use mathlib.Core.Bool.{cond, false};
+ghost use Prim.Native.Nat.{ℕ, _+_, _-_, _≤_};
+ghost use lib.ListN.{length};
+ghost use Rattle.rooms.specs.Room.{at, seen, Lent};
+ghost use Rattle.plan.specs.Plan.{Plan};
+ghost use Rattle.plan.specs.Flow.{held};
+ghost use Rattle.plan.specs.Reason.{NarrowedEnd};
+ghost use Rattle.stand.specs.State.{Ready, Standing, Possible};
+
+// The one of two numbers, or with `upper` the other.
+fn either(upper: bool, low: u32, high: u32) -> u32
+    ensures { λ r. ⌜ r ≡ cond upper high low ⌝ }
+{
+    if upper {
+        return high;
+    }
+    low
+}
+
+// The end of a range of which so much is free: as far below the high, or with `upper` above the low.
+pub fn end_at(upper: bool, low: u32, high: u32, free: u32) -> u32
+    requires { ⌜ (low ≤ high) × (free ≤ high - low) ⌝ }
+    ensures { λ r. ⌜ r ≡ cond upper (low + free) (high - free) ⌝ }
+{
+    either(upper, high - free, low + free)
+}
+
+// The smallest count over all flows of the arc from a to b, or with `upper` the largest.
+pub fn end_of(
+    rooms: &mut [u32],
+    upper: bool,
+    over: &mut [u32],
+    under: &mut [u32],
+    n: usize,
+    a: usize,
+    b: usize,
+    low: u32,
+    high: u32,
+    marks: &mut [u8],
+) -> u32
+    requires lent { ⌜ Lent n (now rooms) (now over) (now under) ⌝ }
+    requires marks { ⌜ n ≤ length (now marks) ⌝ }
+    requires stands { ⌜ ((p : Plan) × ((k : ℕ) × Standing p k n a b low high (seen (now rooms) false) (at (now over)) (at (now under)))) ⌝ }
+    ensures { λ r. ⌜ ((p : Plan) (k : ℕ) → Standing p k n a b low high (seen (now (rooms .entry)) false) (at (now (over .entry))) (at (now (under .entry))) → NarrowedEnd p k upper r × Ready p (seen (now (rooms .exit)) false) (at (now (over .exit))) (at (now (under .exit)))) ⌝ }
+{
+    if a == b {
+        return either(upper, low, high);
+    }
+    let free = measure(rooms, upper, over, under, n, a, b, high - low, marks);
+    end_at(upper, low, high, free)
+}
+
+// Holds the arc from a to b at a count that some flow has on it.
+pub fn hold_at(
+    rooms: &mut [u32],
+    over: &mut [u32],
+    under: &mut [u32],
+    n: usize,
+    a: usize,
+    b: usize,
+    low: u32,
+    high: u32,
+    count: u32,
+    marks: &mut [u8],
+)
+    requires lent { ⌜ Lent n (now rooms) (now over) (now under) ⌝ }
+    requires marks { ⌜ n ≤ length (now marks) ⌝ }
+    requires stands { ⌜ ((p : Plan) × ((k : ℕ) × (Standing p k n a b low high (seen (now rooms) false) (at (now over)) (at (now under)) × Possible p k count))) ⌝ }
+    ensures { λ r. ⌜ ((p : Plan) (k : ℕ) → Standing p k n a b low high (seen (now (rooms .entry)) false) (at (now (over .entry))) (at (now (under .entry))) → Possible p k count → Ready (held p k count) (seen (now (rooms .exit)) false) (at (now (over .exit))) (at (now (under .exit)))) ⌝ }
+{
+    if a == b {
+        return;
+    }
+    hold(rooms, over, under, n, a, b, high - count, count - low);
+    rebalance(rooms, false, over, under, n, marks);
+}

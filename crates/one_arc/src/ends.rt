@@ -1,0 +1,49 @@
+// An end of the narrowed range of an arc of the plan that two lists hold. The plan stands ready before and
+// after. Internal.
+use crate::counts::end_of;
+use stand::build::arc_at;
+ghost use mathlib.Core.Bool.{false};
+ghost use Prim.Native.Nat.{_≤_, _<_, _/_};
+ghost use lib.ListN.{length};
+ghost use Rattle.rooms.specs.Room.{at, seen, Lent};
+ghost use Rattle.plan.specs.Limits.{arc-entries};
+ghost use Rattle.plan.specs.Plan.{WellFormed, plan-of};
+ghost use Rattle.plan.specs.Reason.{NarrowedEnd};
+ghost use Rattle.stand.specs.State.{Ready};
+
+// The smallest count of arc k over all flows, or with `upper` the largest.
+pub fn end_for(
+    arcs: &[u32],
+    supplies: &[i32],
+    k: usize,
+    upper: bool,
+    rooms: &mut [u32],
+    over: &mut [u32],
+    under: &mut [u32],
+    marks: &mut [u8],
+) -> u32
+    requires plan { ⌜ WellFormed (plan-of (now arcs) (now supplies)) ⌝ }
+    requires lent { ⌜ Lent (length (now supplies)) (now rooms) (now over) (now under) ⌝ }
+    requires marks { ⌜ length (now supplies) ≤ length (now marks) ⌝ }
+    requires arc { ⌜ k < length (now arcs) / arc-entries ⌝ }
+    requires ready { ⌜ Ready (plan-of (now arcs) (now supplies)) (seen (now rooms) false) (at (now over)) (at (now under)) ⌝ }
+    ensures end { λ r. ⌜ NarrowedEnd (plan-of (now (arcs .entry)) (now (supplies .entry))) k upper r ⌝ }
+    ensures ready { λ r. ⌜ Ready (plan-of (now (arcs .entry)) (now (supplies .entry))) (seen (now (rooms .exit)) false) (at (now (over .exit))) (at (now (under .exit))) ⌝ }
+{
+    let arc = arc_at(arcs, k);
+    let n = supplies.len();
+    let from = arc.from as usize;
+    let to = arc.to as usize;
+    end_of(
+        rooms,
+        upper,
+        over,
+        under,
+        n,
+        from,
+        to,
+        arc.low,
+        arc.high,
+        marks,
+    )
+}

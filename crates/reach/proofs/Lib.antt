@@ -1,0 +1,2 @@
+mod SearchLog
+mod SearchLoop

@@ -1,0 +1,82 @@
+// The rooms between nodes, in rows: how much can still move from one node to another. What is moved keeps every
+// account (specs/Room). It uses `numbers`. Internal: its functions have `requires`.
+ghost use mathlib.Core.Path.{_≡_};
+ghost use Prim.Native.Nat.{_+_, _*_, _^_, _≤_, _<_};
+ghost use lib.ListN.{length};
+ghost use Rattle.rooms.specs.Room.{side, cell, at, seen};
+ghost use Rattle.rooms.specs.Move.{Pushed, Handed, Less};
+
+pub struct Rooms {
+    pub nodes: usize,
+}
+
+impl Rooms {
+    pub const SIDE: usize = 64;
+
+    pub const CELLS: usize = Rooms::SIDE * Rooms::SIDE;
+}
+
+// The place of the room from x to y; looked at backwards, of the room from y to x.
+pub fn place(back: bool, x: usize, y: usize) -> usize
+    requires { ⌜ (x < side) × (y < side) ⌝ }
+    ensures { λ r. ⌜ (r ≡ cell back x y) × (r < side * side) ⌝ }
+{
+    if back {
+        y * Rooms::SIDE + x
+    } else {
+        x * Rooms::SIDE + y
+    }
+}
+
+// The room from x to y; looked at backwards, the room from y to x.
+pub fn room_of(rooms: &[u32], back: bool, x: usize, y: usize) -> u32
+    requires { ⌜ (side * side ≤ length (now rooms)) × (x < side) × (y < side) ⌝ }
+    ensures { λ r. ⌜ r ≡ seen (now (rooms .entry)) back x y ⌝ }
+{
+    rooms[place(back, x, y)]
+}
+
+// Takes d off the number at a place.
+pub fn take(numbers: &mut [u32], y: usize, d: u32)
+    requires { ⌜ (y < length (now numbers)) × (d ≤ at (now numbers) y) ⌝ }
+    ensures { λ r. ⌜ Less (at (now (numbers .entry))) (at (now (numbers .exit))) y d ⌝ }
+{
+    numbers[y] = numbers[y] - d;
+}
+
+// Adds d to the number at a place: taking it off again gives what was there.
+pub fn add(numbers: &mut [u32], y: usize, d: u32)
+    requires { ⌜ (y < length (now numbers)) × (at (now numbers) y + d < 2 ^ 32) ⌝ }
+    ensures { λ r. ⌜ Less (at (now (numbers .exit))) (at (now (numbers .entry))) y d ⌝ }
+{
+    numbers[y] = numbers[y] + d;
+}
+
+// Hands d of the number at one place on to another place.
+pub fn hand(numbers: &mut [u32], from: usize, to: usize, d: u32)
+    requires nodes { ⌜ (from < length (now numbers)) × (to < length (now numbers)) × (from ≡ to → ⊥) ⌝ }
+    requires fits { ⌜ (d ≤ at (now numbers) from) × (at (now numbers) to + d < 2 ^ 32) ⌝ }
+    ensures { λ r. ⌜ Handed (at (now (numbers .entry))) (at (now (numbers .exit))) from to d ⌝ }
+{
+    numbers[from] = numbers[from] - d;
+    numbers[to] = numbers[to] + d;
+}
+
+// Moves d from x to y: so much room from x to y becomes room from y to x.
+pub fn push(rooms: &mut [u32], back: bool, x: usize, y: usize, d: u32)
+    requires whole { ⌜ side * side ≤ length (now rooms) ⌝ }
+    requires nodes { ⌜ (x < side) × (y < side) × (x ≡ y → ⊥) ⌝ }
+    requires fits { ⌜ (d ≤ seen (now rooms) back x y) × (seen (now rooms) back y x + d < 2 ^ 32) ⌝ }
+    ensures { λ r. ⌜ Pushed (seen (now (rooms .entry)) back) (seen (now (rooms .exit)) back) x y d ⌝ }
+{
+    let out = place(back, x, y);
+    let home = place(back, y, x);
+    hand(rooms, out, home, d);
+}
+
+// The lesser of two numbers.
+pub fn lesser(a: u32, b: u32) -> u32
+    ensures { λ r. ⌜ (r ≤ a) × (r ≤ b) × (0 < a → 0 < b → 0 < r) × (r < a → r ≡ b) ⌝ }
+{
+    if a < b { a } else { b }
+}
