@@ -167,7 +167,8 @@ static void on_painted_stack(void)
     on_stack->ask(on_stack->of, on_stack_plan, &o);
 }
 
-/* The bytes below the caller's frame that a call changes: everything that it uses. */
+/* The bytes from the caller's frame down to the lowest that a call changes. What it reserves below and does not write is
+   not seen. */
 static long stack_bytes(const struct party *a, const struct plan *p)
 {
     static char stack[STACK_BYTES];
@@ -183,6 +184,10 @@ static long stack_bytes(const struct party *a, const struct plan *p)
     swapcontext(&back, &there);
     while (untouched < STACK_BYTES && (unsigned char)stack[untouched] == PAINT)
         untouched++;
+    if (untouched == 0) {
+        fprintf(stderr, "the painted stack is too small\n");
+        exit(2);
+    }
     return (long)(stack_top - stack) - untouched;
 }
 
@@ -343,9 +348,11 @@ int main(int argc, char **argv)
     if (3 < argc)
         before = load(argv[3]);
     print_head();
-    for (size_t i = 0; i < sizeof requests / sizeof *requests; i++)
-        if (has(&unit, &requests[i]))
-            calls += bench(&requests[i], group_count, rounds);
+    for (size_t i = 0; i < sizeof requests / sizeof *requests; i++) {
+        if (!has(&unit, &requests[i]))
+            return fprintf(stderr, "the archive has no blenrop_%s\n", requests[i].name), 2;
+        calls += bench(&requests[i], group_count, rounds);
+    }
     printf("%ld calls timed, all answers agree\n", calls);
     return 0;
 }

@@ -1,13 +1,12 @@
-/* Plan files written and read as a C program does it: entry by entry, low byte first. It looks for everything that the
-   unit looks for, and gives the number alone. The buffers are long enough. */
+/* Plan files written and read as a C program does it: entry by entry, low byte first. It looks for 4 to 7 and, when
+   reading, for 12 to 14, and gives the number alone; lengths and counts are taken to be right. */
 #include "unit.h"
 
 #include <string.h>
 
 enum {
     BLOCK = 512, HEAD = 1, ARCS = 2, PAYLOAD_AT = 6, CHECK_AT = 510, MODULUS = 65521,
-    SUPPLY_BYTES = 4, ARC_BYTES = 6, ARCS_IN_BLOCK = 84,
-    CHECK = 12, KIND = 13, CONTENT = 14
+    SUPPLY_BYTES = 4, ARC_BYTES = 6, ARCS_IN_BLOCK = 84
 };
 
 static void put(uint8_t *at, int bytes, uint32_t number)
@@ -96,19 +95,19 @@ static uint32_t damaged(const uint8_t *file, size_t blocks, size_t nodes, size_t
 {
     for (size_t b = 0; b < blocks; b++)
         if (get(file + BLOCK * b + CHECK_AT, 2) != check_of(file + BLOCK * b))
-            return CHECK;
+            return BLENROP_FILE_CHECK;
     for (size_t b = 0; b < blocks; b++)
         if (file[BLOCK * b] != (b == 0 ? HEAD : ARCS) || file[BLOCK * b + 1] != b)
-            return KIND;
+            return BLENROP_FILE_LABEL;
     if (MOST_NODES < nodes || blocks != 1 + (arcs + ARCS_IN_BLOCK - 1) / ARCS_IN_BLOCK
         || !all_zero(file + PAYLOAD_AT + SUPPLY_BYTES * nodes, file + CHECK_AT))
-        return CONTENT;
+        return BLENROP_FILE_CONTENT;
     for (size_t b = 1; b < blocks; b++) {
         const uint8_t *block = file + BLOCK * b;
         size_t held = b + 1 < blocks ? ARCS_IN_BLOCK : arcs - ARCS_IN_BLOCK * (blocks - 2);
         if (get(block + 2, 2) != held || get(block + 4, 2) != 0
             || !all_zero(block + PAYLOAD_AT + ARC_BYTES * held, block + CHECK_AT))
-            return CONTENT;
+            return BLENROP_FILE_CONTENT;
     }
     return BLENROP_DONE;
 }

@@ -28,8 +28,8 @@
  * and 2 for the others; byte 1 is the block's number, from 0. Bytes 510 and 511 are its check: the sum of
  * (i + 1) * byte i, i from 0 to 509, modulo 65,521. Between them stand
  *     in block 0: n in bytes 2 and 3, m in bytes 4 and 5, from byte 6 the supplies, four bytes each, two's complement;
- *     in another: how many arcs it has in bytes 2 and 3, from byte 6 its arcs, six bytes each: from and to in one byte,
- *         low and high in two. A block has 84 arcs, and only the last may have fewer.
+ *     in another: how many arcs it has in bytes 2 and 3, from byte 6 its arcs, six bytes each: from and to, one
+ *         byte each, then low and high, two bytes each. A block has 84 arcs, and only the last may have fewer.
  * Every other byte is 0. A network has exactly one file, and an accepted file is the file of its network.
  *
  * Slices. A slice is a pointer and a length in entries; with length 0 the pointer may be null. What is lent for writing
@@ -75,8 +75,8 @@ enum {
     BLENROP_FILE_LENGTH = 11,   /* file_length is 0, above 4,096, or not a multiple of 512 */
     BLENROP_FILE_CHECK = 12,    /* a block's check is wrong; index: the lowest such block */
     BLENROP_FILE_LABEL = 13,    /* a block's kind or number is wrong; index: the lowest such block */
-    BLENROP_FILE_CONTENT = 14,  /* the number of blocks is wrong; or how many arcs a block says it has, or a byte of it that
-                                   is to be 0, index: the lowest such block */
+    BLENROP_FILE_CONTENT = 14,  /* the number of blocks is wrong; or a block says a wrong number of arcs, or has a byte that
+                                   must be 0 and is not, index: the lowest such block */
     BLENROP_COUNT_NODES = 15,   /* v + w + 1 is above 64 */
     BLENROP_COUNT_DOMAIN = 16,  /* a value in the domain of i is not below w; index: the lowest such i */
     BLENROP_COUNT_ARCS = 17,    /* w * (v + 1) is above 512 */
@@ -166,8 +166,8 @@ struct blenrop_answer blenrop_count(const uint64_t *domains, size_t domains_leng
                                     uint32_t *new_lows, size_t new_lows_length,
                                     uint32_t *new_highs, size_t new_highs_length);
 
-/* Which network is it? It can be asked every question above; f(i * w + j) = 1 exactly if a(i) = j makes a flow f of each
- * assignment a, and the other way round. Numbers 0, 3 and 15 to 18; 3 if supplies has fewer than n entries, or arcs fewer
+/* Which network is it? It can be asked every question above. Its flows are the assignments: f(i * w + j) = 1 if a(i) = j,
+ * else 0, and f(v * w + j) = uses(j). Numbers 0, 3 and 15 to 18; 3 if supplies has fewer than n entries, or arcs fewer
  * than 4 * m.
  * 0: supplies has the n supplies of the network, and arcs its m arcs.
  * Any other number: both buffers stay. */

@@ -52,18 +52,17 @@ fn compare_on_threads(seed: u64, rounds: usize) -> Run {
         compare(&mut run, number * rounds / THREADS..(number + 1) * rounds / THREADS);
         run
     };
-    thread::scope(|scope| {
+    let mut run = thread::scope(|scope| {
         let parts: Vec<_> = (0..THREADS).map(|number| scope.spawn(move || part(number))).collect();
         parts.into_iter().map(|part| part.join().expect("a thread ended early")).reduce(Run::and)
     })
-    .expect("there is a thread")
+    .expect("there is a thread");
+    pass::worked::all(&mut run);
+    run
 }
 
-/// Ends the program at the first difference. The worked plans go with the first round.
+/// Ends the program at the first difference.
 fn compare(run: &mut Run, rounds: Range<usize>) {
-    if rounds.start == 0 {
-        pass::worked::all(run);
-    }
     for number in rounds {
         pass::networks::round(run, number);
         pass::countings::round(run, number);

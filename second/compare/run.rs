@@ -112,6 +112,7 @@ impl Run {
         second: Answer,
         lent: &[&mut dyn Watched],
     ) -> ! {
+        let _no_other_thread = std::io::stdout().lock();
         match self.planting {
             None => println!("DIFFERENCE in blenrop_{}, seed {}", request.name, self.seed),
             Some(fault) => println!("NOT SEEN in blenrop_{}, seed {}: a wrong {fault:?}", request.name, self.seed),

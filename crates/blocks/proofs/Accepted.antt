@@ -13,13 +13,12 @@ use Rattle.plan.specs.Limits.{most-nodes, most-arcs}
 use Rattle.plan.specs.Plan.{Plan}
 use Rattle.plan.specs.Verdict.{verdict, whole, count-rules, limit-rules}
 use Rattle.plan.specs.declared.Verdict.the-variants.{Accepted}
-use Rattle.plan.proofs.Refusals.{Clear, accepted-clear, clear-accepted, neither}
+use Rattle.plan.proofs.Refusals.{Clear, accepted-clear, clear-accepted, both-accepted, accepted-both, neither}
 use Rattle.format.specs.Format.{Edition, block-size, kind-at, number-at, first-at, second-at, check-at, blocks-of, kind-of, first-count, second-count, content-end, check-of}
 use Rattle.format.specs.Held.{two, place, byte, held}
 use Rattle.blocks.specs.Rules.{blocks-in, counts-wrong, unused-wrong, shape-rules, content-rules, block-rules, reading-rules}
-use Rattle.blocks.specs.Sound.{Shaped, Counted, Contained, Sound}
+use Rattle.blocks.specs.Sound.{Shaped, CountsFit, Contained, Sound}
 use Rattle.blocks.proofs.Any.{any-none, none-any}
-use Rattle.blocks.proofs.Order.{both-accepted, accepted-both}
 use Rattle.blocks.proofs.Wrong.{unused-before, unused-zero}
 
 pub shape-accepted : (e : Edition) (file : List ℕ) → verdict (shape-rules e file) ≡ Accepted → Shaped e file
@@ -44,7 +43,7 @@ shape-accepted e file accepted = record {
     labels : (b : ℕ) → b < blocks-in file → (not (eqb (byte file b kind-at) (kind-of e b)) ≡ false) × (not (eqb (byte file b number-at) b) ≡ false)
     labels b l = neither (not (eqb (byte file b kind-at) (kind-of e b))) (not (eqb (byte file b number-at) b)) (clear .1 .1 .0 b l)
 
-pub counts-accepted : (p : Plan) → verdict (count-rules p) ≡ Accepted → Counted p
+pub counts-accepted : (p : Plan) → verdict (count-rules p) ≡ Accepted → CountsFit p
 counts-accepted p accepted = record {
   some-node = omega (arith, eqb-false (p .nodes) 0 (count .0));
   nodes-fit = omega (arith, ltb-false, count .1);
@@ -104,7 +103,7 @@ shaped-accepted e file s = clear-accepted (shape-rules e file) (
   ),
 )
 
-pub counted-accepted : (p : Plan) → Counted p → verdict (count-rules p) ≡ Accepted
+pub counted-accepted : (p : Plan) → CountsFit p → verdict (count-rules p) ≡ Accepted
 counted-accepted p c = clear-accepted (count-rules p) (
   λ i l. rw (ne-eqb (p .nodes) 0 (λ e. omega (arith, e, c .some-node)), le-ltb most-nodes (p .nodes) (c .nodes-fit)),
   (λ i l. le-ltb most-arcs (p .arcs) (c .arcs-fit), tt),

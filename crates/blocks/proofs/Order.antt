@@ -1,40 +1,19 @@
 -- The order of the rules: what one list of rules says comes before what the next one says, and a rule that concerns nothing gives
 -- way to what comes after.
-use Prim.Native.Nat.{ℕ, _*_, _/_, _≤_, _<_}
-use mathlib.Core.Path.{_≡_, refl, ap, sym, _∙_}
-use mathlib.Core.Bool.{Bool, true, false, _||_}
+use Prim.Native.Nat.{ℕ, _≤_, _<_}
+use mathlib.Core.Path.{_≡_, sym, _∙_}
+use mathlib.Core.Bool.{Bool, true, false}
 use mathlib.Core.List.{List, [], _∷_, _++_}
 use native.Mathlib.Omega.{arith}
-use lib.Dec.{leb, ltb}
-use lib.IntN.{ℤ}
-use lib.ListN.{length}
-use borrow.Author.Tests.{lt-ltb, le-ltb, lt-leb, le-leb, eq-eqb, ne-eqb, ltb-false, leb-false}
-use Rattle.plan.specs.Limits.{most-nodes, most-arcs, arc-entries}
-use Rattle.plan.specs.Plan.{Plan}
+use lib.Dec.{leb}
+use borrow.Author.Tests.{lt-leb, le-leb, eq-eqb, ne-eqb, leb-false}
 use Rattle.plan.specs.Verdict.{Rule, Lowest, lowest, verdict, whole, count-rules, limit-rules}
 use Rattle.plan.specs.declared.Verdict.{Verdict}
 use Rattle.plan.specs.declared.Verdict.the-variants.{Accepted, Refused}
-use Rattle.plan.proofs.Refusals.{after, verdict-after, lowest-at, lowest-past, accepted-clear, neither}
+use Rattle.plan.proofs.Refusals.{before-refused, before-accepted, both-accepted, lowest-at, lowest-past, accepted-clear}
 use Rattle.format.specs.Format.{Edition, blocks-of}
 use Rattle.format.specs.Held.{held}
-use Rattle.blocks.specs.Rules.{blocks-in, length-wrong, check-wrong, label-wrong, content-wrong, shape-rules, content-rules, block-rules, reading-rules, payload-rules, lent-short}
-
-module _ (rules more : List Rule) where
-  pub before-refused : {v : Verdict} {n i : ℕ} → v ≡ verdict rules → v ≡ Refused n i → Refused n i ≡ verdict (rules ++ more)
-  before-refused {v} {n} {i} is e = sym (verdict-after rules more ∙ ap (λ u. after u (verdict more)) (sym is ∙ e))
-
-  pub before-accepted : {v : Verdict} → v ≡ verdict rules → v ≡ Accepted → verdict (rules ++ more) ≡ verdict more
-  before-accepted {v} is e = verdict-after rules more ∙ ap (λ u. after u (verdict more)) (sym is ∙ e)
-
-  pub both-accepted : verdict (rules ++ more) ≡ Accepted → (verdict rules ≡ Accepted) × (verdict more ≡ Accepted)
-  both-accepted e = by (verdict rules) (sym (verdict-after rules more) ∙ e)
-    where
-      by : (v : Verdict) → after v (verdict more) ≡ Accepted → (v ≡ Accepted) × (verdict more ≡ Accepted)
-      by Accepted h = (refl, h)
-      by (Refused n i) h = let clash : _≡_ {A = ℕ} 0 1 = cc in absurd (omega arith)
-
-  pub accepted-both : verdict rules ≡ Accepted → verdict more ≡ Accepted → verdict (rules ++ more) ≡ Accepted
-  accepted-both first then = verdict-after rules more ∙ rw (first, then)
+use Rattle.blocks.specs.Rules.{blocks-in, length-wrong, check-wrong, label-wrong, content-wrong, shape-rules, content-rules, block-rules, reading-rules, payload-rules}
 
 -- ---- 11, 12, 13
 
@@ -56,23 +35,6 @@ module _ (e : Edition) (file : List ℕ) where
       pub shape-passes : blocks-in file ≤ label → Accepted ≡ verdict (shape-rules e file)
       shape-passes no-label =
           rw (right, past-checks) (sym (lowest-past 13 (label-wrong e file) (blocks-in file) label Accepted labels no-label))
-
--- ---- 1, 2
-
-module _ (p : Plan) where
-  pub no-node : p .nodes ≡ 0 → Refused 1 0 ≡ verdict (count-rules p)
-  no-node none = rw (eq-eqb (p .nodes) 0 none)
-
-  module _ (some : p .nodes ≡ 0 → ⊥) where
-    pub too-many-nodes : most-nodes < p .nodes → Refused 1 0 ≡ verdict (count-rules p)
-    too-many-nodes many = rw (ne-eqb (p .nodes) 0 some, lt-ltb most-nodes (p .nodes) many)
-
-    module _ (nodes : p .nodes ≤ most-nodes) where
-      pub too-many-arcs : most-arcs < p .arcs → Refused 2 0 ≡ verdict (count-rules p)
-      too-many-arcs many = rw (ne-eqb (p .nodes) 0 some, le-ltb most-nodes (p .nodes) nodes, lt-ltb most-arcs (p .arcs) many)
-
-      pub counts-pass : p .arcs ≤ most-arcs → Accepted ≡ verdict (count-rules p)
-      counts-pass arcs = rw (ne-eqb (p .nodes) 0 some, le-ltb most-nodes (p .nodes) nodes, le-ltb most-arcs (p .arcs) arcs)
 
 -- ---- 14
 
@@ -125,17 +87,6 @@ module _ (e : Edition) (file : List ℕ) (short : Bool) {v : Verdict} (blocks : 
 
     pub limits-decide : {w : Verdict} → short ≡ false → w ≡ verdict (limit-rules (held e file)) → verdict (reading-rules e file short) ≡ w
     limits-decide is limits = before-accepted (block-rules e file) buffers-on blocks passed ∙ rw is (sym limits)
-
--- what the two lent lists lack, told by counts that are the plan's
-pub lent-is : (p : Plan) (supplies : List ℤ) (arcs : List ℕ) {nodes count : ℕ} {short : Bool} → nodes ≡ p .nodes → count ≡ p .arcs
-    → short ≡ (ltb (length supplies) nodes || ltb (length arcs / arc-entries) count) → lent-short p supplies arcs ≡ short
-lent-is p supplies arcs n m is = sym (rw (n, m) at is)
-
-pub lent-fits : (p : Plan) (supplies : List ℤ) (arcs : List ℕ) → lent-short p supplies arcs ≡ false
-    → (p .nodes ≤ length supplies) × (p .arcs * arc-entries ≤ length arcs)
-lent-fits p supplies arcs fits =
-    let both = neither (ltb (length supplies) (p .nodes)) (ltb (length arcs / arc-entries) (p .arcs)) fits in
-    (ltb-false (length supplies) (p .nodes) (both .0), omega (arith, ltb-false (length arcs / arc-entries) (p .arcs) (both .1)))
 
 -- ---- 8 after all of them
 

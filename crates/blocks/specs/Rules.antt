@@ -4,10 +4,7 @@ use mathlib.Core.Path.{_≡_}
 use mathlib.Core.Bool.{Bool, false, _||_, _&&_, not}
 use mathlib.Core.List.{List, [], _∷_, _++_}
 use lib.Dec.{leb, ltb, eqb}
-use lib.IntN.{ℤ}
 use lib.ListN.{length}
-use Rattle.plan.specs.Limits.{arc-entries}
-use Rattle.plan.specs.Plan.{Plan}
 use Rattle.plan.specs.Verdict.{Rule, whole, verdict, count-rules, limit-rules}
 use Rattle.plan.specs.declared.Verdict.the-variants.{Accepted}
 use Rattle.format.specs.Format.{Edition, block-size, kind-at, number-at, first-at, second-at, check-at, blocks-of, kind-of, first-count, second-count, content-end, check-of}
@@ -74,7 +71,3 @@ pub record FileAccepted (e : Edition) (file : List ℕ) : Type 0 where
 -- for a request about a block: the file's own number, then 8 where there is no such block
 abbrev pub payload-rules : Edition → List ℕ → (block : ℕ) → List Rule
 payload-rules e file block = reading-rules e file false ++ (whole 8 (leb (blocks-in file) block) ∷ [])
-
--- fewer supplies than nodes are lent, or fewer whole arcs than arcs
-abbrev pub lent-short : Plan → (supplies : List ℤ) → (arcs : List ℕ) → Bool
-lent-short p supplies arcs = ltb (length supplies) (p .nodes) || ltb (length arcs / arc-entries) (p .arcs)

@@ -18,7 +18,7 @@ pub record Shaped (e : Edition) (file : List ℕ) : Type 0 where
   pub kinds : (b : ℕ) → b < blocks-in file → byte file b kind-at ≡ kind-of e b
   pub numbers : (b : ℕ) → b < blocks-in file → byte file b number-at ≡ b
 
-pub record Counted (p : Plan) : Type 0 where
+pub record CountsFit (p : Plan) : Type 0 where
   pub some-node : 1 ≤ p .nodes
   pub nodes-fit : p .nodes ≤ most-nodes
   pub arcs-fit : p .arcs ≤ most-arcs
@@ -32,5 +32,5 @@ pub record Contained (e : Edition) (nodes arcs : ℕ) (file : List ℕ) : Type 0
 -- all of these of a file, with the plan that it holds
 pub record Sound (e : Edition) (file : List ℕ) : Type 0 where
   pub shape : Shaped e file
-  pub counts : Counted (held e file)
+  pub counts : CountsFit (held e file)
   pub content : Contained e (held e file .nodes) (held e file .arcs) file

@@ -1,5 +1,5 @@
-// The verdict on a file's blocks, before any buffer is looked at: the numbers 11, 12, 13, 1, 2 and 14, each
-// with the lowest block. It uses `format` for what stands where.
+// The verdict on a file's blocks, before any buffer is looked at: the numbers 11, 12, 13, 1, 2 and 14; 12, 13 and
+// a wrong content with the lowest block. It uses `format` for what stands where and `network` for the counts.
 use format::Block;
 use format::Edition;
 use format::bytes::two;
@@ -8,14 +8,13 @@ use format::layout::block_of;
 use format::layout::blocks_of;
 use format::layout::check_of;
 use format::layout::kind_of;
-use plan::Plan;
+use network::check_counts;
 use plan::Verdict;
 ghost use mathlib.Core.Path.{_≡_};
 ghost use Prim.Native.Nat.{_≤_, _<_, _/_};
 ghost use lib.ListN.{length};
 ghost use Rattle.plan.specs.Limits.{most-nodes, most-arcs};
-ghost use Rattle.plan.specs.Plan.{Plan as Meant};
-ghost use Rattle.plan.specs.Verdict.{Lowest, verdict, count-rules};
+ghost use Rattle.plan.specs.Verdict.{Lowest, verdict};
 ghost use Rattle.format.specs.Format.{first-edition};
 ghost use Rattle.blocks.specs.Rules.{length-wrong, check-wrong, label-wrong, unused-wrong, content-wrong, blocks-in, shape-rules, content-rules, block-rules};
 
@@ -144,22 +143,6 @@ fn check_shape(file: &[u8]) -> Verdict
     let label = lowest_wrong_label(file);
     if label < count {
         return Verdict::Refused(13, label);
-    }
-    Verdict::Accepted
-}
-
-// The verdict by the numbers 1 and 2 on a plan of so many nodes and arcs.
-fn check_counts(nodes: usize, arcs: usize) -> Verdict
-    ensures { λ r. ⌜ ((p : Meant) → p .nodes ≡ nodes → p .arcs ≡ arcs → r ≡ verdict (count-rules p)) ⌝ }
-{
-    if nodes == 0 {
-        return Verdict::Refused(1, 0);
-    }
-    if Plan::MOST_NODES < nodes {
-        return Verdict::Refused(1, 0);
-    }
-    if Plan::MOST_ARCS < arcs {
-        return Verdict::Refused(2, 0);
     }
     Verdict::Accepted
 }

@@ -1,5 +1,5 @@
 -- What the two requests of a counting plan answer, and what they leave in the lent buffers.
-use Prim.Native.Nat.{ℕ, _/_, _≤_, _<_}
+use Prim.Native.Nat.{ℕ, _≤_, _<_}
 use mathlib.Core.Path.{_≡_}
 use mathlib.Core.Bool.{Bool, true, _||_}
 use mathlib.Core.List.{List, [], _∷_, _++_}
@@ -8,10 +8,9 @@ use lib.Dec.{ltb}
 use lib.IntN.{ℤ}
 use lib.ListN.{length}
 use Rattle.rooms.specs.Room.{at}
-use Rattle.plan.specs.Limits.{arc-entries}
 use Rattle.plan.specs.Plan.{Set}
 use Rattle.plan.specs.Shortage.{ShortBy}
-use Rattle.plan.specs.Verdict.{verdict, whole}
+use Rattle.plan.specs.Verdict.{verdict, whole, lists-short}
 use Rattle.plan.specs.declared.Verdict.{Verdict}
 use Rattle.plan.specs.declared.Verdict.the-variants.{Accepted, Refused as TurnedDown}
 use Rattle.lists.specs.Written.{ArcsWritten, SuppliesWritten}
@@ -27,13 +26,9 @@ counting-verdict domains c short = verdict (counting-rules domains c ++ (whole 3
 
 -- ---- the network, handed out
 
--- a supply for each node, and four numbers for each arc
-abbrev pub network-short : Counting → (supplies : List ℤ) → (arcs : List ℕ) → Bool
-network-short c supplies arcs = ltb (length supplies) (network c .nodes) || ltb (length arcs / arc-entries) (network c .arcs)
-
 abbrev pub network-judged : (domains counts : List ℕ) → (supplies : List ℤ) → (arcs : List ℕ) → Verdict
 network-judged domains counts supplies arcs =
-    counting-verdict domains (counting-of domains counts) (network-short (counting-of domains counts) supplies arcs)
+    counting-verdict domains (counting-of domains counts) (lists-short (network (counting-of domains counts)) supplies arcs)
 
 -- the network is written where the input is accepted, and nothing where it is turned down
 abbrev pub Handed : Counting → (supplies : List ℤ) → (arcs : List ℕ) → (supplies′ : List ℤ) → (arcs′ : List ℕ) → Verdict → Type 0

@@ -2,8 +2,8 @@
 use Prim.Native.Nat.{ℕ}
 use mathlib.Core.Path.{_≡_}
 use lib.IntN.{ℤ, pos}
+use Rattle.plan.specs.Verdict.{verdict-number, verdict-place}
 use Rattle.plan.specs.declared.Verdict.{Verdict}
-use Rattle.plan.specs.declared.Verdict.the-variants.{Accepted, Refused as TurnedDown}
 use Rattle.flow.specs.Answer as flow
 use Rattle.flow.specs.declared.Answer as flow-declared
 use Rattle.reason.specs.Answer as reason
@@ -45,12 +45,8 @@ abbrev pub held-reading : Reading held-declared.Answer
 held-reading = record { number = held.number; place = held.place; carried = held.carried }
 
 -- a verdict carries nothing
-abbrev pub verdict-place : Verdict → ℕ
-verdict-place Accepted = 0
-verdict-place (TurnedDown n i) = i
-
 abbrev pub verdict-reading : Reading Verdict
-verdict-reading = record { number = file.verdict-number; place = verdict-place; carried = λ v. pos 0 }
+verdict-reading = record { number = verdict-number; place = verdict-place; carried = λ v. pos 0 }
 
 -- a file that was read has its node count for a place, and its arc count for a value
 abbrev pub read-place : file-declared.Answer → ℕ
@@ -66,4 +62,4 @@ written-reading = record { number = file.written-number; place = file.written-in
 
 -- a payload has its first byte for a place, and its length for a value
 abbrev pub payload-reading : Reading Part
-payload-reading = record { number = λ p. file.verdict-number (p .judged); place = λ p. p .start; carried = λ p. pos (p .size) }
+payload-reading = record { number = λ p. verdict-number (p .judged); place = λ p. p .start; carried = λ p. pos (p .size) }

@@ -14,16 +14,16 @@ use borrow.Author.Tests.{lt-ltb, le-ltb, ltb-false, eq-eqb, ne-eqb}
 use Rattle.plan.specs.Limits.{arc-entries}
 use Rattle.plan.specs.Plan.{Plan, plan-of}
 use Rattle.plan.specs.Keeping.{SamePlan}
-use Rattle.plan.specs.Verdict.{verdict, whole, count-rules, limit-rules}
+use Rattle.plan.specs.Verdict.{verdict, whole, count-rules, limit-rules, lists-short}
 use Rattle.plan.specs.declared.Verdict.the-variants.{Accepted}
-use Rattle.plan.proofs.Refusals.{accepted-or-refused, accepted-well-formed, accepted-buffers-fit}
+use Rattle.plan.proofs.Refusals.{accepted-or-refused, accepted-both, accepted-well-formed, accepted-buffers-fit}
+use Rattle.plan.proofs.Checked.{lists-fit}
 use Rattle.plan.proofs.Alike.{counts-alike, limits-alike}
 use Rattle.lists.specs.Written.{SuppliesWritten, ArcsWritten}
 use Rattle.lists.proofs.Same.{written-plan, supplies-alike, arcs-alike}
 use Rattle.format.specs.Format.{first-edition, block-size, payload-at, check-at, digit, unsigned, content-end, content-byte, body-byte, block-byte, file-length, FileOf}
 use Rattle.format.specs.Held.{held, Bytes}
-use Rattle.blocks.specs.Rules.{lent-short, FileAccepted}
-use Rattle.blocks.proofs.Order.{accepted-both, lent-fits}
+use Rattle.blocks.specs.Rules.{FileAccepted}
 use Rattle.blocks.proofs.Accepted.{reading-accepted, accepted-reading, counted-accepted}
 use Rattle.file.specs.Answer.{ReadAnswers, WriteAnswers, judged-network}
 use Rattle.file.specs.declared.Answer.{Answer}
@@ -110,7 +110,7 @@ module _ (p : Plan) (buffer file : List ℕ) (long : ℕ) (a : WriteAnswers firs
       (rw (nodes, count), supplies-alike same (x .says .1) (x .says .3), arcs-alike same (x .says .2) (x .says .4))
   read-what-was-written supplies supplies′ arcs arcs′ enough enough′ (Refused n i) x =
       let same = back .1 in
-      let fits : lent-short (held first-edition again) supplies arcs ≡ false =
+      let fits : lists-short (held first-edition again) supplies arcs ≡ false =
       rw (same .network .nodes, same .network .arcs, le-ltb (length supplies) (p .nodes) enough, le-ltb (length arcs / arc-entries) (p .arcs) enough′) in
       let parts = reading-accepted first-edition again false (back .0 .accepted) in
       absurd (accepted-or-refused (accepted-reading first-edition again (parts .0) (parts .2) fits) (x .says .0))
@@ -128,17 +128,17 @@ module _ (file : List ℕ) (bytes : Bytes file) (supplies supplies′ : List ℤ
 
   same : SamePlan network plan
   same =
-      let parts = reading-accepted first-edition file (lent-short plan supplies arcs) (x .says .0) in
-      let fits = lent-fits plan supplies arcs (parts .1) in
+      let parts = reading-accepted first-edition file (lists-short plan supplies arcs) (x .says .0) in
+      let fits = lists-fit plan supplies arcs (parts .1) in
       rw (x .says .1, x .says .2) (written-plan (rw (x .says .2) at (x .says .4)) (rw (x .says .1) at (x .says .3))
       (omega (arith, fits .1, x .says .4 .same-length)) (omega (arith, fits .0, x .says .3 .same-length)))
 
   is-file : FileOf first-edition plan file
-  is-file = sound-is-the-file file bytes (reading-accepted first-edition file (lent-short plan supplies arcs) (x .says .0) .0)
+  is-file = sound-is-the-file file bytes (reading-accepted first-edition file (lists-short plan supplies arcs) (x .says .0) .0)
 
   accepted : (buffer : List ℕ) → length file ≤ length buffer → judged-network first-edition network buffer ≡ Accepted
   accepted buffer enough =
-      let parts = reading-accepted first-edition file (lent-short plan supplies arcs) (x .says .0) in
+      let parts = reading-accepted first-edition file (lists-short plan supplies arcs) (x .says .0) in
       let short = ltb (length buffer) (file-length first-edition network) in
       let fits : short ≡ false = le-ltb (length buffer) (file-length first-edition network) (omega (arith, long-same network plan same, is-file .long)) in
       let limits : verdict (limit-rules network) ≡ Accepted = limits-alike same ∙ parts .2 in

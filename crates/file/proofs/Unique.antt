@@ -8,7 +8,7 @@ use native.Mathlib.Omega.{arith}
 use lib.IntN.{ℤ}
 use lib.ListN.{take, drop}
 use Rattle.plan.specs.Plan.{Plan}
-use Rattle.plan.specs.Verdict.{Rule, lowest, verdict}
+use Rattle.plan.specs.Verdict.{Rule, lowest, verdict, verdict-number}
 use Rattle.plan.specs.declared.Verdict.{Verdict}
 use Rattle.plan.specs.declared.Verdict.the-variants.{Accepted, Refused as TurnedDown}
 use Rattle.plan.proofs.Refusals.{accepted-or-refused}
@@ -17,7 +17,7 @@ use Rattle.lists.proofs.Arcs.{arcs-unique}
 use Rattle.format.specs.Format.{Edition, payload-at, check-at}
 use Rattle.format.specs.Held.{place}
 use Rattle.blocks.specs.Rules.{payload-rules}
-use Rattle.file.specs.Answer.{ReadAnswers, WriteAnswers, verdict-number, judged-block, shown, payload-of}
+use Rattle.file.specs.Answer.{ReadAnswers, WriteAnswers, judged-block, shown, payload-of}
 use Rattle.file.specs.declared.Answer.{Answer}
 use Rattle.file.specs.declared.Answer.the-variants.{Read, Refused}
 use Rattle.file.specs.declared.Written.{Written}

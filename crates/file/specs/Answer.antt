@@ -6,13 +6,13 @@ use lib.Dec.{ltb}
 use lib.IntN.{ℤ}
 use lib.ListN.{length, take, drop}
 use Rattle.plan.specs.Plan.{Plan}
-use Rattle.plan.specs.Verdict.{verdict, network-rules}
+use Rattle.plan.specs.Verdict.{verdict, network-rules, lists-short}
 use Rattle.plan.specs.declared.Verdict.{Verdict}
 use Rattle.plan.specs.declared.Verdict.the-variants.{Accepted, Refused as TurnedDown}
 use Rattle.lists.specs.Written.{EntriesWritten, SuppliesWritten, ArcsWritten}
 use Rattle.format.specs.Format.{Edition, payload-at, check-at, file-length, file-byte}
 use Rattle.format.specs.Held.{place, held}
-use Rattle.blocks.specs.Rules.{reading-rules, payload-rules, lent-short}
+use Rattle.blocks.specs.Rules.{reading-rules, payload-rules}
 use Rattle.file.specs.declared.Answer.{Answer}
 use Rattle.file.specs.declared.Answer.the-variants.{Read, Refused}
 use Rattle.file.specs.declared.Written.{Written}
@@ -38,7 +38,7 @@ arcs-read (Read nodes count) = count
 arcs-read (Refused n i) = 0
 
 abbrev pub judged-file : Edition → List ℕ → List ℤ → List ℕ → Verdict
-judged-file e file supplies arcs = verdict (reading-rules e file (lent-short (held e file) supplies arcs))
+judged-file e file supplies arcs = verdict (reading-rules e file (lists-short (held e file) supplies arcs))
 
 -- an accepted file's plan stands in the first entries; else nothing has changed
 abbrev pub SaysRead : Edition → (file : List ℕ) → (supplies supplies′ : List ℤ) → (arcs arcs′ : List ℕ) → Answer → Type 0
@@ -83,11 +83,6 @@ pub record WriteAnswers (e : Edition) (p : Plan) (file file′ : List ℕ) (answ
 
 abbrev pub judged-block : Edition → List ℕ → (block : ℕ) → Verdict
 judged-block e file block = verdict (payload-rules e file block)
-
--- the number of a verdict: 0 where nothing is turned down
-abbrev pub verdict-number : Verdict → ℕ
-verdict-number Accepted = 0
-verdict-number (TurnedDown n i) = n
 
 -- a part is shown only where the number is 0
 abbrev pub shown : Verdict → List ℕ → List ℕ

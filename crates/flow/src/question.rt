@@ -1,6 +1,6 @@
 // The flow question of document 01, for every input.
 use crate::Answer;
-use first::first_flow;
+use first_flow::first_flow;
 use marks::mark_arcs;
 use marks::mark_nodes;
 use network::check;

@@ -1,5 +1,6 @@
-// The format of a plan file: what stands where in the file of a network, and what the bytes of a file say (specs/); the
-// same for the code, in numbers of bytes and in blocks. It uses `plan`. Internal: its functions have `requires`.
+// The format of a plan file: what stands where in the file of a network, and what the bytes of a file say (specs/).
+// `bytes` has numbers in bytes, `layout` how many blocks there are, what each says of itself, and its check. It uses
+// `plan`. Internal: most of its functions have `requires`.
 pub mod bytes;
 pub mod layout;
 

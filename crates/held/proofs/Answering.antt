@@ -15,7 +15,7 @@ use Rattle.plan.specs.declared.Verdict.{Verdict}
 use Rattle.plan.specs.declared.Verdict.the-variants.{Accepted}
 use Rattle.plan.proofs.Between.{between-occurs}
 use Rattle.plan.proofs.Refusals.{last-accepted, accepted-well-formed, accepted-buffers-fit, neither}
-use Rattle.stand.specs.State.{Possible}
+use Rattle.one_arc.specs.Standing.{Possible}
 use Rattle.held.specs.Answer.{judged, Told, Says}
 use Rattle.held.specs.declared.Answer.{Answer}
 use Rattle.held.specs.declared.Answer.the-variants.{Runs, Short, Outside, Refused}

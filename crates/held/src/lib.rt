@@ -1,5 +1,5 @@
 // One lane held at a count: the first flow among those with that count. It uses `plan` for what is meant
-// and `stand` for working it out.
+// and `stand`, `one_arc` and `first_flow` for working it out.
 pub mod request;
 
 use stand::Asked;

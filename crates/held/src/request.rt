@@ -1,6 +1,6 @@
 // The request of document 01 for an arc held at a count, for every input.
 use crate::Answer;
-use first::first_flow;
+use first_flow::first_flow;
 use network::check_asked;
 use one_arc::counts::hold_at;
 use one_arc::ends::end_for;
@@ -19,7 +19,8 @@ ghost use Rattle.rooms.specs.Room.{at, seen, Lent};
 ghost use Rattle.plan.specs.Limits.{arc-entries};
 ghost use Rattle.plan.specs.Plan.{WellFormed, plan-of};
 ghost use Rattle.plan.specs.Flow.{OutsideRange, held};
-ghost use Rattle.stand.specs.State.{Ready, Possible};
+ghost use Rattle.stand.specs.State.{Ready};
+ghost use Rattle.one_arc.specs.Standing.{Possible};
 ghost use Rattle.held.specs.Answer.{Flowing, Told, HeldAnswers};
 
 // Whether a count lies outside a range.

@@ -12,14 +12,15 @@ use Rattle.plan.specs.Limits.{arc-entries}
 use Rattle.plan.proofs.Refusals.{accepted-clear, neither}
 use Rattle.format.specs.Format.{Edition}
 use Rattle.format.specs.Held.{held}
-use Rattle.blocks.specs.Rules.{reading-rules, lent-short}
+use Rattle.plan.specs.Verdict.{lists-short}
+use Rattle.blocks.specs.Rules.{reading-rules}
 use Rattle.file.specs.Answer.{ReadAnswers}
 use Rattle.file.specs.declared.Answer.the-variants.{Read}
 
 module _ {e : Edition} {file : List ℕ} {supplies supplies′ : List ℤ} {arcs arcs′ : List ℕ} {nodes count : ℕ}
     (said : ReadAnswers e file supplies supplies′ arcs arcs′ (Read nodes count)) where
   long-enough : (ltb (length supplies) (held e file .nodes) ≡ false) × (ltb (length arcs / arc-entries) (held e file .arcs) ≡ false)
-  long-enough = neither _ _ (accepted-clear (reading-rules e file (lent-short (held e file) supplies arcs)) (said .says .0)
+  long-enough = neither _ _ (accepted-clear (reading-rules e file (lists-short (held e file) supplies arcs)) (said .says .0)
       .1 .1 .1 .1 .1 .1 .1 .0 0 (omega arith))
 
   pub nodes-fit : nodes ≤ length supplies

@@ -1,5 +1,5 @@
 // The listing of document 01: reads one plan file on standard input, and prints what the unit says of its plan.
-// A thin program: `file` reads, `flow` and `narrow` answer, `say` prints.
+// A thin program: `reading` reads, `flow` and `narrow` answer, `say` prints.
 use flow::Answer;
 use flow::question::question;
 use format::Edition;

@@ -7,7 +7,7 @@ use lib.ListN.{length, getD}
 use Rattle.plan.specs.Limits.{arc-entries}
 use Rattle.plan.specs.Plan.{Plan}
 
--- a number for each of the first n entries, and nothing at or past them
+-- a number for each of the first n entries, and nothing at or past them; the length is said by who uses it
 pub record Written (values : ℕ → ℕ) (n : ℕ) (buffer buffer′ : List ℕ) : Type 0 where
   pub there : (i : ℕ) → i < n → getD buffer′ i 0 ≡ values i
   pub past : (i : ℕ) → n ≤ i → getD buffer′ i 0 ≡ getD buffer i 0

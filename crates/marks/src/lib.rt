@@ -1,6 +1,8 @@
 // The marks of a "no" or a reason, written to lent buffers. A "no" uses the bounds that a low end uses,
-// and leaves out no arc, so one loop marks for both. It uses `plan` for what is cited. Internal.
+// and leaves out no arc, so one loop marks for both. It uses `plan` for what is cited, `reach` for the marked
+// set and `lists` for what is written. Internal: most of its functions have `requires`.
 use plan::Arc;
+use plan::wide;
 ghost use mathlib.Core.Path.{_≡_};
 ghost use mathlib.Core.Bool.{not, _&&_, cond};
 ghost use Prim.Native.Nat.{_≤_, _<_, _/_};
@@ -12,13 +14,6 @@ ghost use Rattle.plan.specs.Limits.{widest-low, widest-high, arc-entries};
 ghost use Rattle.plan.specs.Plan.{WellFormed, plan-of};
 ghost use Rattle.plan.specs.Reason.{no-marks, end-marks};
 ghost use Rattle.lists.specs.Written.{Written};
-
-// A node of the caller's arcs is at most 32 bits wide and fits.
-fn wide(x: u32) -> usize
-    ensures { λ r. ⌜ r ≡ x ⌝ }
-{
-    x as usize
-}
 
 // The one thing, and not the other.
 fn and_not(this: bool, other: bool) -> bool

@@ -1,17 +1,18 @@
 -- The tests of the rules 4 to 6, one half after the other, as the code makes them; and a supply's magnitude.
 use Prim.Native.Nat.{ℕ, _≤_, _<_}
-use mathlib.Core.Path.{_≡_, sym}
+use mathlib.Core.Path.{_≡_, sym, _∙_}
 use mathlib.Core.Bool.{Bool, true, false, false≢true}
-use lib.Dec.{leb, ltb, leb·suc-suc}
+use mathlib.Core.List.{_∷_}
+use lib.Dec.{leb, ltb, eqb, leb·suc-suc}
 use lib.IntN.{ℤ, pos, negsuc, natAbs}
 use lib.Signed.{ltZ}
 use borrow.Author.Tests.{le-leb, lt-leb, lt-ltb, le-ltb, ltb-false, eq-eqb, ne-eqb}
 use Rattle.plan.specs.Limits.{most-nodes, most-arcs, most-supply, widest-high}
 use Rattle.plan.specs.Plan.{Plan}
-use Rattle.plan.specs.Verdict.{Lowest, lowest, end-wrong, range-wrong, supply-wrong, verdict, limit-rules, network-rules}
+use Rattle.plan.specs.Verdict.{Lowest, lowest, end-wrong, range-wrong, supply-wrong, verdict, whole, count-rules, limit-rules, network-rules}
 use Rattle.plan.specs.declared.Verdict.{Verdict}
 use Rattle.plan.specs.declared.Verdict.the-variants.{Accepted, Refused}
-use Rattle.plan.proofs.Refusals.{lowest-at, lowest-past, size-zero}
+use Rattle.plan.proofs.Refusals.{before-refused, before-accepted, accepted-clear, neither, lowest-at, lowest-past, size-zero}
 use Rattle.numbers.specs.Sums.{sumℤ}
 use native.Mathlib.Omega.{arith}
 
@@ -37,28 +38,42 @@ pub supply-below : (z : ℤ) → ltZ (pos most-supply) z ≡ false → ltZ z (ne
 supply-below (pos n) h = sym h
 supply-below (negsuc n) h = sym (leb·suc-suc most-supply n)
 
--- ---- the rules 1 to 3, each given way to by those before it
+-- ---- the rules 1 and 2
 
-module _ (p : Plan) (short : Bool) where
-  pub no-node : p .nodes ≡ 0 → Refused 1 0 ≡ verdict (network-rules p short)
+module _ (p : Plan) where
+  pub no-node : p .nodes ≡ 0 → Refused 1 0 ≡ verdict (count-rules p)
   no-node none = rw (eq-eqb (p .nodes) 0 none)
 
   module _ (some : p .nodes ≡ 0 → ⊥) where
-    pub too-many-nodes : most-nodes < p .nodes → Refused 1 0 ≡ verdict (network-rules p short)
+    pub too-many-nodes : most-nodes < p .nodes → Refused 1 0 ≡ verdict (count-rules p)
     too-many-nodes many = rw (ne-eqb (p .nodes) 0 some, lt-ltb most-nodes (p .nodes) many)
 
     module _ (nodes : p .nodes ≤ most-nodes) where
-      pub too-many-arcs : most-arcs < p .arcs → Refused 2 0 ≡ verdict (network-rules p short)
+      pub too-many-arcs : most-arcs < p .arcs → Refused 2 0 ≡ verdict (count-rules p)
       too-many-arcs many = rw (ne-eqb (p .nodes) 0 some, le-ltb most-nodes (p .nodes) nodes, lt-ltb most-arcs (p .arcs) many)
 
-      module _ (arcs : p .arcs ≤ most-arcs) where
-        pub too-short : short ≡ true → Refused 3 0 ≡ verdict (network-rules p short)
-        too-short is =
-            rw (ne-eqb (p .nodes) 0 some, le-ltb most-nodes (p .nodes) nodes, le-ltb most-arcs (p .arcs) arcs, is)
+      pub counts-pass : p .arcs ≤ most-arcs → Accepted ≡ verdict (count-rules p)
+      counts-pass arcs = rw (ne-eqb (p .nodes) 0 some, le-ltb most-nodes (p .nodes) nodes, le-ltb most-arcs (p .arcs) arcs)
 
-        pub counts-pass : short ≡ false → verdict (limit-rules p) ≡ verdict (network-rules p short)
-        counts-pass is =
-            rw (ne-eqb (p .nodes) 0 some, le-ltb most-nodes (p .nodes) nodes, le-ltb most-arcs (p .arcs) arcs, is)
+-- ---- and 3 after them
+
+module _ (p : Plan) (short : Bool) {v : Verdict} (counts : v ≡ verdict (count-rules p)) where
+  pub counts-turn-down : {n i : ℕ} → v ≡ Refused n i → Refused n i ≡ verdict (network-rules p short)
+  counts-turn-down = before-refused (count-rules p) (whole 3 short ∷ limit-rules p) counts
+
+  module _ (passed : v ≡ Accepted) where
+    after-counts : verdict (network-rules p short) ≡ verdict (whole 3 short ∷ limit-rules p)
+    after-counts = before-accepted (count-rules p) (whole 3 short ∷ limit-rules p) counts passed
+
+    pub short-turns-down : short ≡ true → Refused 3 0 ≡ verdict (network-rules p short)
+    short-turns-down is = sym (after-counts ∙ rw is)
+
+    pub limits-decide : short ≡ false → verdict (limit-rules p) ≡ verdict (network-rules p short)
+    limits-decide is = sym (after-counts ∙ rw is)
+
+    pub few-nodes : p .nodes ≤ most-nodes
+    few-nodes = ltb-false most-nodes (p .nodes)
+        (neither (eqb (p .nodes) 0) (ltb most-nodes (p .nodes)) (accepted-clear (count-rules p) (sym counts ∙ passed) .0 0 (omega arith)) .1)
 
 -- ---- the rules 4 to 7, each given way to by those before it
 

@@ -3,6 +3,7 @@
 use plan::Arc;
 use plan::Plan;
 use plan::Verdict;
+use plan::wide;
 ghost use mathlib.Core.Path.{_≡_};
 ghost use mathlib.Core.Bool.{_||_};
 ghost use Prim.Native.Nat.{ℕ, _/_, _≤_, _<_};
@@ -11,15 +12,8 @@ ghost use lib.IntN.{pos, natAbs};
 ghost use lib.ListN.{length, getD};
 ghost use Rattle.numbers.specs.Sums.{sumℤ};
 ghost use Rattle.plan.specs.Limits.{most-nodes, most-supply, arc-entries};
-ghost use Rattle.plan.specs.Plan.{plan-of};
-ghost use Rattle.plan.specs.Verdict.{Lowest, end-wrong, range-wrong, supply-wrong, verdict, limit-rules, network-rules, asking-rules};
-
-// An index of the caller's numbers is at most 32 bits wide and fits.
-fn wide(x: u32) -> usize
-    ensures { λ r. ⌜ r ≡ x ⌝ }
-{
-    x as usize
-}
+ghost use Rattle.plan.specs.Plan.{Plan as Meant, plan-of};
+ghost use Rattle.plan.specs.Verdict.{Lowest, end-wrong, range-wrong, supply-wrong, verdict, count-rules, limit-rules, network-rules, asking-rules};
 
 // An end of arc k is not below the node count.
 fn end_wrong(arcs: &[u32], supplies: &[i32], k: usize) -> bool
@@ -141,22 +135,30 @@ pub fn check_limits(arcs: &[u32], supplies: &[i32]) -> Verdict
     }
 }
 
-// The verdict on a network, by the numbers 1 to 7 in their order; `short` says that a lent buffer is
-// too short for what the request may write.
-pub fn check(arcs: &[u32], supplies: &[i32], short: bool) -> Verdict
-    ensures { λ r. ⌜ r ≡ verdict (network-rules (plan-of (now (arcs .entry)) (now (supplies .entry))) short) ⌝ }
+// The verdict by the numbers 1 and 2 on a plan of so many nodes and arcs.
+pub fn check_counts(nodes: usize, arcs: usize) -> Verdict
+    ensures { λ r. ⌜ ((p : Meant) → p .nodes ≡ nodes → p .arcs ≡ arcs → r ≡ verdict (count-rules p)) ⌝ }
 {
-    let plan = Plan::of(arcs, supplies);
-    let nodes = plan.nodes;
-    let count = plan.arcs;
     if nodes == 0 {
         return Verdict::Refused(1, 0);
     }
     if Plan::MOST_NODES < nodes {
         return Verdict::Refused(1, 0);
     }
-    if Plan::MOST_ARCS < count {
+    if Plan::MOST_ARCS < arcs {
         return Verdict::Refused(2, 0);
+    }
+    Verdict::Accepted
+}
+
+// The verdict on a network, by the numbers 1 to 7 in their order; `short` says that a lent buffer is
+// too short for what the request may write.
+pub fn check(arcs: &[u32], supplies: &[i32], short: bool) -> Verdict
+    ensures { λ r. ⌜ r ≡ verdict (network-rules (plan-of (now (arcs .entry)) (now (supplies .entry))) short) ⌝ }
+{
+    let plan = Plan::of(arcs, supplies);
+    if let Verdict::Refused(number, index) = check_counts(plan.nodes, plan.arcs) {
+        return Verdict::Refused(number, index);
     }
     if short {
         return Verdict::Refused(3, 0);

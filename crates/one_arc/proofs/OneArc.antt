@@ -12,7 +12,8 @@ use Rattle.plan.specs.Flow.{Flow, held}
 use Rattle.plan.specs.Reason.{NarrowedEnd, EndReason}
 use Rattle.plan.proofs.Narrowing.{held-well-formed, loop-smallest, loop-largest}
 use Rattle.plan.proofs.HeldCounts.{held-flow}
-use Rattle.stand.specs.State.{Represents, Ready, Standing, Possible}
+use Rattle.stand.specs.State.{Represents, Ready}
+use Rattle.one_arc.specs.Standing.{Standing, Possible}
 use Rattle.stand.proofs.Standing.{kept-represents, flow-none-short, ready-flow, still-ready, free-end, free-reason, seen-still}
 use Rattle.one_arc.proofs.Holding.{width-in-pair, held-represents, held-small, loop-held-represents}
 

@@ -11,7 +11,8 @@ ghost use Rattle.rooms.specs.Room.{at, seen, Lent};
 ghost use Rattle.plan.specs.Plan.{Plan};
 ghost use Rattle.plan.specs.Flow.{held};
 ghost use Rattle.plan.specs.Reason.{NarrowedEnd};
-ghost use Rattle.stand.specs.State.{Ready, Standing, Possible};
+ghost use Rattle.stand.specs.State.{Ready};
+ghost use Rattle.one_arc.specs.Standing.{Standing, Possible};
 
 // The one of two numbers, or with `upper` the other.
 fn either(upper: bool, low: u32, high: u32) -> u32

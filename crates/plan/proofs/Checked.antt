@@ -1,13 +1,16 @@
 -- From the check to a request's answer: which verdict it is, and what acceptance says of the plan and of two lent buffers.
-use Prim.Native.Nat.{ℕ, _≤_}
+use Prim.Native.Nat.{ℕ, _*_, _/_, _≤_}
 use mathlib.Core.Path.{_≡_, sym, ap, _∙_}
 use mathlib.Core.Bool.{Bool, false, _||_}
 use mathlib.Core.List.{List}
 use lib.Dec.{ltb}
+use lib.IntN.{ℤ}
 use lib.ListN.{length}
+use native.Mathlib.Omega.{arith}
 use borrow.Author.Tests.{ltb-false}
+use Rattle.plan.specs.Limits.{arc-entries}
 use Rattle.plan.specs.Plan.{Plan, WellFormed}
-use Rattle.plan.specs.Verdict.{verdict, network-rules, asking-rules, lent-short}
+use Rattle.plan.specs.Verdict.{verdict, network-rules, asking-rules, lent-short, lists-short}
 use Rattle.plan.specs.declared.Verdict.{Verdict}
 use Rattle.plan.specs.declared.Verdict.the-variants.{Accepted}
 use Rattle.plan.proofs.Refusals.{accepted-well-formed, accepted-buffers-fit, neither}
@@ -39,3 +42,14 @@ module _ (p : Plan) (first second : List ℕ) (m n : ℕ) (accepted : verdict (n
 
   pub second-fits : n ≤ length second
   second-fits = ltb-false (length second) n (both-fit .1)
+
+-- what the two lent lists lack, told by counts that are the plan's
+pub lists-told : (p : Plan) (supplies : List ℤ) (arcs : List ℕ) {nodes count : ℕ} {short : Bool} → nodes ≡ p .nodes → count ≡ p .arcs
+    → short ≡ (ltb (length supplies) nodes || ltb (length arcs / arc-entries) count) → lists-short p supplies arcs ≡ short
+lists-told p supplies arcs n m is = sym (rw (n, m) at is)
+
+pub lists-fit : (p : Plan) (supplies : List ℤ) (arcs : List ℕ) → lists-short p supplies arcs ≡ false
+    → (p .nodes ≤ length supplies) × (p .arcs * arc-entries ≤ length arcs)
+lists-fit p supplies arcs fits =
+    let both = neither (ltb (length supplies) (p .nodes)) (ltb (length arcs / arc-entries) (p .arcs)) fits in
+    (ltb-false (length supplies) (p .nodes) (both .0), omega (arith, ltb-false (length arcs / arc-entries) (p .arcs) (both .1)))

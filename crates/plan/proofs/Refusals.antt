@@ -173,6 +173,25 @@ verdict-after (r ∷ rules) more =
     ap (lowest (r .number) (r .concerns) (r .places)) (verdict-after rules more)
     ∙ lowest-after (r .number) (r .concerns) (r .places) (verdict rules) (verdict more)
 
+-- two lists of rules, one after the other
+module _ (rules more : List Rule) where
+  pub before-refused : {v : Verdict} {n i : ℕ} → v ≡ verdict rules → v ≡ Refused n i → Refused n i ≡ verdict (rules ++ more)
+  before-refused {v} {n} {i} is e = sym (verdict-after rules more ∙ ap (λ u. after u (verdict more)) (sym is ∙ e))
+
+  pub before-accepted : {v : Verdict} → v ≡ verdict rules → v ≡ Accepted → verdict (rules ++ more) ≡ verdict more
+  before-accepted {v} is e = verdict-after rules more ∙ ap (λ u. after u (verdict more)) (sym is ∙ e)
+
+  pub both-accepted : verdict (rules ++ more) ≡ Accepted → (verdict rules ≡ Accepted) × (verdict more ≡ Accepted)
+  both-accepted e = by (verdict rules) (sym (verdict-after rules more) ∙ e)
+    where
+      by : (v : Verdict) → after v (verdict more) ≡ Accepted → (v ≡ Accepted) × (verdict more ≡ Accepted)
+      by Accepted h = (refl, h)
+      by (Refused n i) h = let clash : _≡_ {A = ℕ} 0 1 = cc in absurd (omega arith)
+
+  pub accepted-both : verdict rules ≡ Accepted → verdict more ≡ Accepted → verdict (rules ++ more) ≡ Accepted
+  accepted-both first then = verdict-after rules more ∙ rw (first, then)
+
+-- and where the second is one number for the whole
 module _ (rules : List Rule) (number : ℕ) (wrong : Bool) where
   at-last : verdict (rules ++ (whole number wrong ∷ [])) ≡ after (verdict rules) (cond wrong (Refused number 0) Accepted)
   at-last = verdict-after rules (whole number wrong ∷ [])

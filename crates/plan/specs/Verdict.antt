@@ -1,14 +1,14 @@
 -- What is turned down, and with which number: rules in the order in which they are looked at. A rule has a number, how many
 -- places it looks at, and a test of the places that it concerns; its number goes with the lowest place concerned.
-use Prim.Native.Nat.{ℕ, zero, suc, _≤_, _<_}
+use Prim.Native.Nat.{ℕ, zero, suc, _/_, _≤_, _<_}
 use mathlib.Core.Path.{_≡_}
 use mathlib.Core.Bool.{Bool, true, false, cond, _||_, not}
 use mathlib.Core.List.{List, [], _∷_, _++_}
 use lib.Dec.{leb, ltb, eqb}
-use lib.IntN.{natAbs}
+use lib.IntN.{ℤ, natAbs}
 use lib.ListN.{length}
 use Rattle.numbers.specs.Sums.{sumℤ}
-use Rattle.plan.specs.Limits.{most-nodes, most-arcs, most-supply, widest-high}
+use Rattle.plan.specs.Limits.{most-nodes, most-arcs, most-supply, widest-high, arc-entries}
 use Rattle.plan.specs.Plan.{Plan, Set}
 use Rattle.plan.specs.declared.Verdict.{Verdict}
 use Rattle.plan.specs.declared.Verdict.the-variants.{Accepted, Refused}
@@ -33,6 +33,15 @@ lowest number concerns (suc n) after = lowest number concerns n (cond (concerns 
 abbrev pub verdict : List Rule → Verdict
 verdict [] = Accepted
 verdict (r ∷ rules) = lowest (r .number) (r .concerns) (r .places) (verdict rules)
+
+-- the number of a verdict, 0 where nothing is turned down; and the place that goes with it, or 0
+abbrev pub verdict-number : Verdict → ℕ
+verdict-number Accepted = 0
+verdict-number (Refused n i) = n
+
+abbrev pub verdict-place : Verdict → ℕ
+verdict-place Accepted = 0
+verdict-place (Refused n i) = i
 
 -- a number that concerns no place: its index is 0
 abbrev pub whole : ℕ → Bool → Rule
@@ -81,3 +90,7 @@ asking-rules p short missing = network-rules p short ++ (whole 8 missing ∷ [])
 -- of two lent buffers, of which m entries and n entries are asked, one is too short
 abbrev pub lent-short : (first : List ℕ) → ℕ → (second : List ℕ) → ℕ → Bool
 lent-short first m second n = ltb (length first) m || ltb (length second) n
+
+-- of two lent lists that a plan is to be written to, one is too short: a supply for each node, four numbers for each arc
+abbrev pub lists-short : Plan → (supplies : List ℤ) → (arcs : List ℕ) → Bool
+lists-short p supplies arcs = ltb (length supplies) (p .nodes) || ltb (length arcs / arc-entries) (p .arcs)

@@ -71,6 +71,13 @@ pub enum Verdict {
     Refused(u32, usize),
 }
 
+// A number of the caller's that is an index: 32 bits fit in a word.
+pub fn wide(x: u32) -> usize
+    ensures { λ r. ⌜ r ≡ x ⌝ }
+{
+    x as usize
+}
+
 // It does nothing: its contract says that the code's limits are those of the definitions.
 pub fn limits_agree()
     ensures nodes { λ r. do ⌜ (← ⟦Plan::MOST_NODES⟧ .entry) ≡ most-nodes ⌝ }

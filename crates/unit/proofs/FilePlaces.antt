@@ -10,16 +10,16 @@ use lib.ListN.{length, take, drop}
 use borrow.Author.Tests.{ltb-false}
 use Rattle.plan.specs.Limits.{most-nodes, most-arcs}
 use Rattle.plan.specs.Plan.{Plan}
-use Rattle.plan.specs.Verdict.{whole, limit-rules}
+use Rattle.plan.specs.Verdict.{whole, limit-rules, lists-short}
 use Rattle.plan.specs.declared.Verdict.{Verdict}
 use Rattle.plan.specs.declared.Verdict.the-variants.{Accepted, Refused as TurnedDown}
-use Rattle.plan.proofs.Refusals.{neither, accepted-well-formed}
+use Rattle.plan.proofs.Refusals.{neither, both-accepted, accepted-well-formed}
 use Rattle.format.specs.Format.{first-edition, block-size, payload-at, check-at, file-length}
 use Rattle.format.specs.Held.{place, held}
-use Rattle.blocks.specs.Rules.{blocks-in, length-wrong, content-rules, reading-rules, lent-short}
+use Rattle.blocks.specs.Rules.{blocks-in, length-wrong, content-rules, reading-rules}
 use Rattle.blocks.specs.Sound.{Sound}
 use Rattle.blocks.proofs.Accepted.{reading-accepted}
-use Rattle.blocks.proofs.Order.{both-accepted, payload-there}
+use Rattle.blocks.proofs.Order.{payload-there}
 use Rattle.file.specs.Answer.{ReadAnswers, WriteAnswers, arcs-read, written-index, written-length, judged-block, shown}
 use Rattle.file.specs.declared.Answer.{Answer}
 use Rattle.file.specs.declared.Answer.the-variants.{Read, Refused}
@@ -59,7 +59,7 @@ reading-few file short = (
 reading-sound : {file : List ℕ} {supplies : List ℤ} {arcs : List ℕ} {s : List ℤ} {a : List ℕ} {n m : ℕ}
     → ReadAnswers first-edition file supplies s arcs a (Read n m) → Sound first-edition file
 reading-sound {file} {supplies} {arcs} x =
-    reading-accepted first-edition file (lent-short (held first-edition file) supplies arcs) (x .says .0) .0
+    reading-accepted first-edition file (lists-short (held first-edition file) supplies arcs) (x .says .0) .0
 
 pub read-small : {file : List ℕ} {supplies : List ℤ} {arcs : List ℕ} {s : List ℤ} {a : List ℕ} (r : Answer)
     → ReadAnswers first-edition file supplies s arcs a r → (read-place r < most-arcs) × (arcs-read r ≤ most-arcs)
@@ -68,8 +68,8 @@ read-small (Read n m) x = (
   omega (arith, x .says .2, reading-sound x .counts .arcs-fit),
 )
 read-small {file} {supplies} {arcs} (Refused m i) x = (
-  small-place (verdict-small (reading-rules first-edition file (lent-short (held first-edition file) supplies arcs))
-      (reading-few file (lent-short (held first-edition file) supplies arcs))) (x .says .0),
+  small-place (verdict-small (reading-rules first-edition file (lists-short (held first-edition file) supplies arcs))
+      (reading-few file (lists-short (held first-edition file) supplies arcs))) (x .says .0),
   omega arith,
 )
 

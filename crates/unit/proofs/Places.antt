@@ -12,7 +12,7 @@ use lib.ListN.{length}
 use borrow.Author.Tests.{ltb-false}
 use Rattle.plan.specs.Limits.{most-nodes, most-arcs}
 use Rattle.plan.specs.Plan.{Plan}
-use Rattle.plan.specs.Verdict.{Rule, lowest, verdict, whole, network-rules, asking-rules, lent-short}
+use Rattle.plan.specs.Verdict.{Rule, lowest, verdict, verdict-place, whole, network-rules, asking-rules, lent-short, lists-short}
 use Rattle.plan.specs.declared.Verdict.{Verdict}
 use Rattle.plan.specs.declared.Verdict.the-variants.{Accepted, Refused}
 use Rattle.plan.proofs.Refusals.{None, neither}
@@ -30,9 +30,9 @@ use Rattle.held.specs.Answer.{HeldAnswers}
 use Rattle.held.specs.declared.Answer as held-declared
 use Rattle.held.specs.declared.Answer.the-variants as held-variants
 use Rattle.counting.specs.Counting.{Counting, counting-of}
+use Rattle.counting.specs.Network.{network}
 use Rattle.counting.specs.Rules.{counting-rules}
-use Rattle.count.specs.Answer.{Buffers, CountAnswers, NetworkAnswers, buffers-short, network-short, counting-verdict}
-use Rattle.crossing.specs.Crossing.{verdict-place}
+use Rattle.count.specs.Answer.{Buffers, CountAnswers, NetworkAnswers, buffers-short, counting-verdict}
 
 -- a verdict's place, if it has one, is below the most arcs that a plan can have
 abbrev pub Small : Verdict → Type 0
@@ -136,4 +136,4 @@ pub count-network-place : {domains counts : List ℕ} {supplies s : List ℤ} {a
     → NetworkAnswers domains counts supplies arcs s a r → verdict-place r < most-arcs
 count-network-place Accepted x = omega arith
 count-network-place {domains} {counts} {supplies} {s} {arcs} (Refused m i) x =
-    small-place (counting-small domains (counting-of domains counts) (network-short (counting-of domains counts) supplies arcs)) (x .answer-is)
+    small-place (counting-small domains (counting-of domains counts) (lists-short (network (counting-of domains counts)) supplies arcs)) (x .answer-is)

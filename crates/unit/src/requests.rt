@@ -8,7 +8,7 @@ ghost use Rattle.reason.specs.Answer.{ReasonAnswers};
 ghost use Rattle.held.specs.Answer.{HeldAnswers};
 ghost use Rattle.crossing.specs.Crossing.{Crosses, flow-reading, reason-reading, held-reading};
 
-// The flow question. Number 0: the arc buffer has the first flow. Number 9: value lacks, and the buffers
+// The flow question. Number 0: the arc buffer has the first flow. Number 9: the value is the shortfall, and the buffers
 // have the marks. Any other number: the input is turned down at index, and the buffers stay.
 #[no_mangle]
 pub extern "C" fn blenrop_flow(
@@ -22,7 +22,7 @@ pub extern "C" fn blenrop_flow(
     Answer::of_flow(flow::question::question(arcs, supplies, arc_buffer, node_buffer))
 }
 
-// Narrowing. Number 0: lows and highs have each arc's smallest and largest count. Number 9: value lacks,
+// Narrowing. Number 0: lows and highs have each arc's smallest and largest count. Number 9: the value is the shortfall,
 // and the buffers stay. Any other number: the input is turned down at index, and the buffers stay.
 #[no_mangle]
 pub extern "C" fn blenrop_narrow(
@@ -52,7 +52,7 @@ pub extern "C" fn blenrop_reason(
     Answer::of_reason(reason::request::reason(arcs, supplies, arc, end, arc_buffer, node_buffer))
 }
 
-// An arc held at a count. Number 0: the arc buffer has the first flow with it. Number 9: value lacks.
+// An arc held at a count. Number 0: the arc buffer has the first flow with it. Number 9: the value is the shortfall.
 // Number 10: no flow has that count. Unless the number is 0 the buffer stays.
 #[no_mangle]
 pub extern "C" fn blenrop_held(

@@ -4,10 +4,11 @@ use native.Mathlib.Omega.{arith}
 use lib.Dec.{ltb}
 use lib.ListN.{length}
 use borrow.Author.Tests.{ltb-false}
+use Rattle.plan.specs.Verdict.{lists-short}
 use Rattle.plan.proofs.Refusals.{neither, last-refused, last-wrong, last-passes}
 use Rattle.counting.specs.Counting.{counting-of}
+use Rattle.counting.specs.Network.{network}
 use Rattle.counting.specs.Rules.{counting-rules}
-use Rattle.count.specs.Answer.{network-short}
 use Rattle.counting.proofs.Refused.{accepted-network}
 use borrow.Author.Needs.{needs}
 use Rattle.count.proofs.request.count_network.Statement.{statement}
@@ -24,7 +25,7 @@ returns c =
     let domains = c .before .before .before .before .before .before .before .args .domains .now in
     let plan = counting-of (c .before .before .before .before .before .before .before .args .domains .now) (c .before .before .before .before .before .before .before .args .counts .now) in
     record {
-      answer-is = last-refused (counting-rules domains plan) 3 (network-short plan (c .before .before .before .before .before .before .before .args .supplies .now) (c .before .before .before .before .before .before .before .args .arcs .now)) (sym (c .before .before .before .check .ensures) ∙ c .before .number .given .1);
+      answer-is = last-refused (counting-rules domains plan) 3 (lists-short (network plan) (c .before .before .before .before .before .before .before .args .supplies .now) (c .before .before .before .before .before .before .before .args .arcs .now)) (sym (c .before .before .before .check .ensures) ∙ c .before .number .given .1);
       handed = (refl, refl);
     }
 
@@ -59,7 +60,7 @@ returns-2 c =
     let domains = c .before .before .before .before .before .before .before .before .args .domains .now in
     let plan = counting-of (c .before .before .before .before .before .before .before .before .args .domains .now) (c .before .before .before .before .before .before .before .before .args .counts .now) in
     record {
-      answer-is = last-wrong (counting-rules domains plan) 3 (network-short plan (c .before .before .before .before .before .before .before .before .args .supplies .now) (c .before .before .before .before .before .before .before .before .args .arcs .now)) (sym (c .before .before .before .before .check .ensures) ∙ c .before .before .enum-told .given .1) (sym (c .before .too-short .ensures) ∙ c .if1 .taken);
+      answer-is = last-wrong (counting-rules domains plan) 3 (lists-short (network plan) (c .before .before .before .before .before .before .before .before .args .supplies .now) (c .before .before .before .before .before .before .before .before .args .arcs .now)) (sym (c .before .before .before .before .check .ensures) ∙ c .before .before .enum-told .given .1) (sym (c .before .too-short .ensures) ∙ c .if1 .taken);
       handed = (refl, refl);
     }
 
@@ -86,7 +87,7 @@ returns-3 c =
     let domains = c .before .before .before .before .before .before .before .before .before .before .before .before .before .before .before .args .domains .now in
     let plan = counting-of (c .before .before .before .before .before .before .before .before .before .before .before .before .before .before .before .args .domains .now) (c .before .before .before .before .before .before .before .before .before .before .before .before .before .before .before .args .counts .now) in
     record {
-      answer-is = last-passes (counting-rules domains plan) 3 (network-short plan (c .before .before .before .before .before .before .before .before .before .before .before .before .before .before .before .args .supplies .now) (c .before .before .before .before .before .before .before .before .before .before .before .before .before .before .before .args .arcs .now)) (sym (c .before .before .before .before .before .before .before .before .before .before .before .check .ensures) ∙ c .before .before .before .before .before .before .before .before .before .enum-told .given .1) (sym (c .before .before .before .before .before .before .before .before .too-short .ensures) ∙ c .before .before .before .before .before .before .before .if1 .left);
+      answer-is = last-passes (counting-rules domains plan) 3 (lists-short (network plan) (c .before .before .before .before .before .before .before .before .before .before .before .before .before .before .before .args .supplies .now) (c .before .before .before .before .before .before .before .before .before .before .before .before .before .before .before .args .arcs .now)) (sym (c .before .before .before .before .before .before .before .before .before .before .before .check .ensures) ∙ c .before .before .before .before .before .before .before .before .before .enum-told .given .1) (sym (c .before .before .before .before .before .before .before .before .too-short .ensures) ∙ c .before .before .before .before .before .before .before .if1 .left);
       handed = (c .before .before .before .before .before .draw-supplies .ensures plan refl refl, c .before .before .draw-arcs .ensures);
     }
 

@@ -4,7 +4,7 @@ use mir.Facts.{toZ-ofZ}
 use mir.Syntax.{w64}
 use Rattle.flow.proofs.Answering.{marked-lacking}
 use Rattle.plan.specs.Plan.{plan-of}
-use Rattle.first.proofs.Firsts.{listed-whole}
+use Rattle.first_flow.proofs.Firsts.{listed-whole}
 use Rattle.engine.proofs.Sweeping.{lent-still, still-fits}
 use native.Mathlib.Omega.{arith}
 use borrow.Author.Needs.{needs}

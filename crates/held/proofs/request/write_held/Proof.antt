@@ -4,7 +4,7 @@ use Rattle.plan.specs.Flow.{held}
 use Rattle.plan.proofs.Narrowing.{held-well-formed}
 use Rattle.plan.proofs.HeldCounts.{first-with-held}
 use Rattle.engine.proofs.Sweeping.{lent-still, still-fits}
-use Rattle.first.proofs.Firsts.{listed-held}
+use Rattle.first_flow.proofs.Firsts.{listed-held}
 use borrow.Author.Needs.{needs}
 use Rattle.held.proofs.request.write_held.Statement.{statement}
 use Rattle.held.proofs.request.write_held.Tie as tie

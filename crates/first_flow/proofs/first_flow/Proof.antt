@@ -1,6 +1,7 @@
 -- The arcs before i are held at the counts written so far, and the plan with them held stands ready.
-use Rattle.stand.specs.State.{Listed, Ready}
-use Rattle.first.proofs.Firsts.{FirstSoFar, first-begins, first-well-formed, first-goes-on, first-ends}
+use Rattle.stand.specs.State.{Ready}
+use Rattle.first_flow.specs.Fixing.{Listed}
+use Rattle.first_flow.proofs.Firsts.{FirstSoFar, first-begins, first-well-formed, first-goes-on, first-ends}
 use Rattle.plan.specs.Plan.{Plan, WellFormed}
 use Rattle.plan.specs.Limits.{arc-entries}
 use Rattle.engine.proofs.Sweeping.{lent-still, still-fits}
@@ -11,8 +12,8 @@ use mathlib.Core.Path.{_≡_, refl, _∙_}
 use Prim.Native.Nat.{_-_, _/_, _≤_}
 use native.Mathlib.Omega.{arith}
 use borrow.Author.Needs.{needs}
-use Rattle.first.proofs.first_flow.Statement.{statement}
-use Rattle.first.proofs.first_flow.Tie as tie
+use Rattle.first_flow.proofs.first_flow.Statement.{statement}
+use Rattle.first_flow.proofs.first_flow.Tie as tie
 
 abbrev Inv-loop : tie.InvT-loop
 Inv-loop arcs supplies k count counts₀ rooms₀ over₀ under₀ marks₀ total i₀ counts rooms over under marks i =

@@ -1,9 +1,9 @@
 -- 1 comes before 2.
 use mathlib.Core.Path.{sym, _∙_}
-use Rattle.blocks.proofs.Order.{no-node, too-many-nodes, too-many-arcs, counts-pass}
+use Rattle.network.proofs.Wrong.{no-node, too-many-nodes, too-many-arcs, counts-pass}
 use native.Mathlib.Omega.{arith}
-use Rattle.blocks.proofs.check_counts.Statement.{statement}
-use Rattle.blocks.proofs.check_counts.Tie as tie
+use Rattle.network.proofs.check_counts.Statement.{statement}
+use Rattle.network.proofs.check_counts.Tie as tie
 
 returns : tie.Need-returns
 returns c = λ p n m. no-node p (n ∙ c .if1 .taken)

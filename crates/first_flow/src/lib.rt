@@ -1,5 +1,6 @@
 // The first flow, arc by arc: each arc gets its smallest count once the arcs before it are held at
-// theirs, and is held there. One arc may be held at a count from the start. Internal.
+// theirs, and is held there. One arc may be held at a count from the start. It uses `stand` for the plan in
+// the rooms and `one_arc` for each arc. Internal: its functions have `requires`.
 use one_arc::counts::end_of;
 use one_arc::counts::hold_at;
 use plan::Arc;
@@ -15,7 +16,8 @@ ghost use Rattle.rooms.specs.Room.{at, seen, Lent};
 ghost use Rattle.plan.specs.Limits.{arc-entries};
 ghost use Rattle.plan.specs.Plan.{Plan, WellFormed, plan-of};
 ghost use Rattle.plan.specs.Flow.{FirstFlow, Smallest, held, fixed};
-ghost use Rattle.stand.specs.State.{Listed, Ready, Fixing};
+ghost use Rattle.stand.specs.State.{Ready};
+ghost use Rattle.first_flow.specs.Fixing.{Listed, Fixing};
 
 // Arc i of a list of arcs; the range of arc k is a count alone.
 fn arc_held_at(arcs: &[u32], k: usize, count: u32, i: usize) -> Arc

@@ -1,8 +1,8 @@
 -- Put at one index, a count is there and nowhere else.
 use borrow.Author.Needs.{needs}
 use borrow.Author.Tests.{eq-eqb, ne-eqb}
-use Rattle.first.proofs.arc_held_at.Statement.{statement}
-use Rattle.first.proofs.arc_held_at.Tie as tie
+use Rattle.first_flow.proofs.arc_held_at.Statement.{statement}
+use Rattle.first_flow.proofs.arc_held_at.Tie as tie
 
 arc-at-requires : tie.Need-arc-at-requires
 arc-at-requires c κs = search needs

@@ -19,7 +19,9 @@ use Rattle.plan.specs.Limits.{arc-entries}
 use Rattle.plan.specs.Plan.{Plan, WellFormed, plan-of}
 use Rattle.plan.specs.Flow.{FirstFlow, Smallest, held, limited, fixed}
 use Rattle.plan.proofs.First.{fixed-well-formed, fixed-start-plan, fixed-next-plan, first-flow-by-arcs}
-use Rattle.stand.specs.State.{Listed, Ready, Standing, Possible, Fixing}
+use Rattle.stand.specs.State.{Ready}
+use Rattle.one_arc.specs.Standing.{Standing, Possible}
+use Rattle.first_flow.specs.Fixing.{Listed, Fixing}
 use Rattle.stand.proofs.Standing.{ready-flow}
 
 pub smallest-possible : {p : Plan} {k count : ℕ} → k < p .arcs → Smallest p k count → Possible p k count

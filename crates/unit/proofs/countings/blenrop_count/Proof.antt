@@ -1,8 +1,8 @@
 -- The answer is the request's own, and its place is small.
 use Rattle.unit.proofs.Places.{count-place}
 use borrow.Author.Needs.{needs}
-use Rattle.unit.proofs.counts.blenrop_count.Statement.{statement}
-use Rattle.unit.proofs.counts.blenrop_count.Tie as tie
+use Rattle.unit.proofs.countings.blenrop_count.Statement.{statement}
+use Rattle.unit.proofs.countings.blenrop_count.Tie as tie
 
 count-requires : tie.Need-count-requires
 count-requires c κs = search needs

@@ -1,8 +1,8 @@
 -- The answer is the request's own, and its place is small.
 use Rattle.unit.proofs.Places.{count-network-place}
 use borrow.Author.Needs.{needs}
-use Rattle.unit.proofs.counts.blenrop_count_network.Statement.{statement}
-use Rattle.unit.proofs.counts.blenrop_count_network.Tie as tie
+use Rattle.unit.proofs.countings.blenrop_count_network.Statement.{statement}
+use Rattle.unit.proofs.countings.blenrop_count_network.Tie as tie
 
 count-network-requires : tie.Need-count-network-requires
 count-network-requires c κs = search needs

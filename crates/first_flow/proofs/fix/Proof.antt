@@ -1,11 +1,11 @@
 -- The arc's smallest count is found in the plan with the arcs before it held, and the arc is held there too.
-use Rattle.first.proofs.Firsts.{fixing-standing, smallest-possible}
+use Rattle.first_flow.proofs.Firsts.{fixing-standing, smallest-possible}
 use Rattle.one_arc.proofs.OneArc.{standing-on}
 use Rattle.plan.specs.Flow.{fixed}
 use Rattle.engine.proofs.Sweeping.{lent-still, still-fits}
 use borrow.Author.Needs.{needs}
-use Rattle.first.proofs.fix.Statement.{statement}
-use Rattle.first.proofs.fix.Tie as tie
+use Rattle.first_flow.proofs.fix.Statement.{statement}
+use Rattle.first_flow.proofs.fix.Tie as tie
 
 arc-held-at-requires : tie.Need-arc-held-at-requires
 arc-held-at-requires c κs = c .before .before .before .before .before .pre .1 .1 .0
