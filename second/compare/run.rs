@@ -26,8 +26,8 @@ pub struct Run {
     pub random: Random,
     seed: u64,
     planting: Option<Fault>,
-    /// How many requests of each name got each number.
-    compared: BTreeMap<(&'static str, u32), u64>,
+    /// How many requests of each name got each number, and of which kind.
+    compared: BTreeMap<(&'static str, u32, usize), u64>,
 }
 
 impl Run {
@@ -44,8 +44,8 @@ impl Run {
 
     /// What two parts compared, as one.
     pub fn and(mut self, other: Run) -> Run {
-        for (name_and_number, times) in other.compared {
-            *self.compared.entry(name_and_number).or_default() += times;
+        for (answer, times) in other.compared {
+            *self.compared.entry(answer).or_default() += times;
         }
         self
     }
@@ -87,7 +87,8 @@ impl Run {
         if (unit == second && memory_agrees) == self.planting.is_some() {
             self.report(request, asked, unit, second, lent);
         }
-        *self.compared.entry((request.name, second.number)).or_default() += 1;
+        let kind = if second.number == 0 && !request.kinds.is_empty() { second.index as usize } else { 0 };
+        *self.compared.entry((request.name, second.number, kind)).or_default() += 1;
     }
 
     /// Changes what the unit gave, and says whether there was something to change.
@@ -129,7 +130,7 @@ impl Run {
     }
 
     pub fn total_of(&self, request: &Request) -> u64 {
-        self.compared.iter().filter(|((name, _), _)| *name == request.name).map(|(_, times)| times).sum()
+        self.compared.iter().filter(|((name, _, _), _)| *name == request.name).map(|(_, times)| times).sum()
     }
 
     /// How many requests were compared, of each.
@@ -142,19 +143,28 @@ impl Run {
     pub fn numbers(&self) -> String {
         let of_request = |request: &Request| {
             let of_number = |&number| format!("{number} x {}", self.times(request, number));
-            let numbers: Vec<String> = request.numbers.iter().map(of_number).collect();
-            format!("{}, by number: {}\n", request.name, numbers.join(", "))
+            let of_kind = |(kind, name): (usize, &&str)| format!("{name} x {}", self.times_of_kind(request, 0, kind));
+            let numbers = request.numbers.iter().map(of_number);
+            let told: Vec<String> = numbers.chain(request.kinds.iter().enumerate().map(of_kind)).collect();
+            format!("{}, by number: {}\n", request.name, told.join(", "))
         };
         requests::ALL.iter().map(of_request).collect()
     }
 
-    /// Whether every number that a request can give came up: one that did not was not compared.
+    /// Whether every number and kind that a request can give came up: one that did not was not compared.
     pub fn met_every_number(&self) -> bool {
-        let met = |request: &Request| request.numbers.iter().all(|&number| 0 < self.times(request, number));
+        let met = |request: &Request| {
+            request.numbers.iter().all(|&number| 0 < self.times(request, number))
+                && (0..request.kinds.len()).all(|kind| 0 < self.times_of_kind(request, 0, kind))
+        };
         requests::ALL.iter().all(met)
     }
 
     fn times(&self, request: &Request, number: u32) -> u64 {
-        self.compared.get(&(request.name, number)).copied().unwrap_or(0)
+        (0..request.kinds.len().max(1)).map(|kind| self.times_of_kind(request, number, kind)).sum()
+    }
+
+    fn times_of_kind(&self, request: &Request, number: u32, kind: usize) -> u64 {
+        self.compared.get(&(request.name, number, kind)).copied().unwrap_or(0)
     }
 }

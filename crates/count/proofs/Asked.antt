@@ -7,13 +7,13 @@ use native.Mathlib.Omega.{arith}
 use native.Mathlib.Nat.{sub-zero}
 use lib.IntN.{ℤ}
 use lib.ListN.{length, take, drop}
-use borrow.Author.Tests.{le-ltb}
 use Rattle.plan.specs.Limits.{arc-entries}
 use Rattle.plan.specs.Plan.{Plan, WellFormed, plan-of}
 use Rattle.plan.specs.declared.Verdict.the-variants.{Accepted}
 use Rattle.plan.specs.Keeping.{SamePlan}
 use Rattle.plan.proofs.Alike.{alike-back, alike-has-flow, alike-occurs, alike-smallest, alike-largest, alike-short-by, alike-well-formed}
-use Rattle.plan.proofs.Refusals.{accepted-or-refused, well-formed-accepted}
+use Rattle.plan.proofs.Refusals.{accepted-or-refused}
+use Rattle.plan.proofs.Checked.{well-formed-judged, both-long}
 use Rattle.lists.specs.Written.{ArcsWritten, SuppliesWritten}
 use Rattle.lists.proofs.Same.{written-plan}
 use Rattle.flow.specs.declared.Answer.{Answer}
@@ -35,8 +35,7 @@ drawn-alike {p} a s arcs-fit supplies-fit =
 -- a well-formed plan whose buffers are long enough is accepted
 accepted : (p : Plan) (lows highs : List ℕ) → WellFormed p → p .arcs ≤ length lows → p .arcs ≤ length highs
     → judged p lows highs ≡ Accepted
-accepted p lows highs w low-fits high-fits =
-    rw (le-ltb (length lows) (p .arcs) low-fits, le-ltb (length highs) (p .arcs) high-fits) (well-formed-accepted p w)
+accepted p lows highs w low-fits high-fits = well-formed-judged p w (both-long lows highs low-fits high-fits)
 
 pub not-refused : {p : Plan} {lows highs lows′ highs′ : List ℕ} {n i : ℕ} → WellFormed p → p .arcs ≤ length lows
     → p .arcs ≤ length highs → NarrowAnswers p lows highs lows′ highs′ (Refused n i) → ⊥

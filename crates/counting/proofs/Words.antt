@@ -1,16 +1,16 @@
 -- Words as sets of values: the bits of a word, which say which word it is.
-use Prim.Native.Nat.{ℕ, zero, suc, _+_, _-_, _*_, _/_, _%_, _^_, _≤_, _<_}
-use mathlib.Core.Path.{_≡_, ap, sym, subst, _∙_}
-use mathlib.Core.Bool.{Bool, true, false, _&&_}
+use Prim.Native.Nat.{ℕ, zero, suc, _+_, _-_, _/_, _%_, _^_, _≤_}
+use mathlib.Core.Path.{_≡_, ap, sym, _∙_}
+use mathlib.Core.Bool.{true, false}
 use mathlib.Core.List.{List}
 use mathlib.Core.Logic.{by-cases, _↔_}
 use native.Mathlib.Omega.{arith}
 use native.Mathlib.Decide.{decLt, ℕ-discrete}
-use native.Mathlib.Nat.{one-le-pow, le-div-iff-mul-le, div-eq-of-lt, div-one, zero-div, pow-le-pow-right, two-pow-succ, zero-add, add-zero}
+use native.Mathlib.Nat.{one-le-pow, le-div-iff-mul-le, div-eq-of-lt, div-one, zero-div, pow-le-pow-right}
 use lib.Dec.{eqb, leb, ltb}
 use lib.ListN.{getD}
 use lib.Pow.{shr-shr}
-use borrow.Author.Tests.{ltb-true, lt-ltb, le-ltb, le-leb, lt-leb, eqb-true, eqb-false, eq-eqb, ne-eqb}
+use borrow.Author.Tests.{ltb-true, lt-ltb, le-leb, lt-leb, eqb-true, eqb-false, eq-eqb, ne-eqb}
 use Rattle.counting.specs.Counting.{holds}
 use Rattle.counting.specs.Rules.{names-beyond}
 

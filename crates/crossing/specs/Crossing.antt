@@ -12,7 +12,6 @@ use Rattle.held.specs.Answer as held
 use Rattle.held.specs.declared.Answer as held-declared
 use Rattle.file.specs.Answer as file
 use Rattle.file.specs.declared.Answer as file-declared
-use Rattle.file.specs.declared.Answer.the-variants.{Read, Refused}
 use Rattle.file.specs.declared.Written as written-declared
 use Rattle.crossing.specs.Payload.{Part}
 use Rattle.crossing.specs.declared.answer.Answer.{Answer}
@@ -49,12 +48,8 @@ abbrev pub verdict-reading : Reading Verdict
 verdict-reading = record { number = verdict-number; place = verdict-place; carried = λ v. pos 0 }
 
 -- a file that was read has its node count for a place, and its arc count for a value
-abbrev pub read-place : file-declared.Answer → ℕ
-read-place (Read nodes count) = nodes
-read-place (Refused n i) = i
-
 abbrev pub read-reading : Reading file-declared.Answer
-read-reading = record { number = file.number; place = read-place; carried = λ r. pos (file.arcs-read r) }
+read-reading = record { number = file.number; place = file.read-place; carried = λ r. pos (file.arcs-read r) }
 
 -- a file that was written has its length for a value
 abbrev pub written-reading : Reading written-declared.Written

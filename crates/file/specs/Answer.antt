@@ -20,18 +20,15 @@ use Rattle.file.specs.declared.Written.the-variants.{Length, Refused as 
 
 -- ---- reading
 
--- the number that document 01 gives each answer, 0 for a file that was read; the index that goes with it, or 0; and the counts
+-- the number that document 01 gives each answer, 0 for a file that was read; the place that goes with it, or the node count; and
+-- the arc count
 abbrev pub number : Answer → ℕ
 number (Read nodes count) = 0
 number (Refused n i) = n
 
-abbrev pub index : Answer → ℕ
-index (Read nodes count) = 0
-index (Refused n i) = i
-
-abbrev pub nodes-read : Answer → ℕ
-nodes-read (Read nodes count) = nodes
-nodes-read (Refused n i) = 0
+abbrev pub read-place : Answer → ℕ
+read-place (Read nodes count) = nodes
+read-place (Refused n i) = i
 
 abbrev pub arcs-read : Answer → ℕ
 arcs-read (Read nodes count) = count

@@ -1,5 +1,5 @@
 -- For every input the question's promise admits one answer and one content of each buffer.
-use Prim.Native.Nat.{ℕ, _<_}
+use Prim.Native.Nat.{ℕ, _≤_, _<_}
 use mathlib.Core.Path.{_≡_, refl, sym, ap, _∙_}
 use mathlib.Core.List.{List}
 use mathlib.Core.Logic.{_↔_}
@@ -8,11 +8,11 @@ use lib.IntN.{ℤ}
 use lib.ListN.{length}
 use Rattle.numbers.specs.Sums.{only}
 use Rattle.rooms.specs.Room.{at}
-use Rattle.plan.specs.Plan.{Plan}
+use Rattle.plan.specs.Plan.{Plan, WellFormed}
 use Rattle.plan.specs.Flow.{Flow}
 use Rattle.plan.specs.declared.Verdict.the-variants.{Accepted}
 use Rattle.plan.proofs.Refusals.{accepted-or-refused}
-use Rattle.plan.proofs.Checked.{accepted-plan}
+use Rattle.plan.proofs.Checked.{accepted-plan, well-formed-judged, both-long}
 use Rattle.plan.proofs.Unique.{first-flow-unique, shortage-unique, short-by-unique, short-or-flow}
 use Rattle.plan.proofs.EitherEnd.{no-marks-alike}
 use Rattle.lists.proofs.Entries.{one-content}
@@ -69,9 +69,13 @@ module _ (p : Plan) (arcs nodes : List ℕ) where
     x .says .2 ∙ sym (y .says .2),
   )
 
-  -- an accepted plan gets number 9 exactly if no flow exists
-  pub no-exactly-if-no-flow : {a n : List ℕ} (r : Answer) → judged p arcs nodes ≡ Accepted → FlowAnswers p arcs nodes a n r
-      → (number r ≡ 9) ↔ ((f : ℕ → ℕ) → Flow p f → ⊥)
-  no-exactly-if-no-flow {a} Runs e x = (λ no. absurd (omega arith), λ none. absurd (none (at a) (x .says .1 .0 .first .flow)))
-  no-exactly-if-no-flow (Short v) e x = (λ no f c. flow-or-lack e c (x .says .1), λ none. refl)
-  no-exactly-if-no-flow (Refused m i) e x = absurd (accepted-or-refused e (x .says .0))
+  -- a well-formed plan with long enough buffers gets number 9 exactly if no flow exists
+  module _ (w : WellFormed p) (arcs-long : p .arcs ≤ length arcs) (nodes-long : p .nodes ≤ length nodes) where
+    accepted : judged p arcs nodes ≡ Accepted
+    accepted = well-formed-judged p w (both-long arcs nodes arcs-long nodes-long)
+
+    pub no-exactly-if-no-flow : {a n : List ℕ} (r : Answer) → FlowAnswers p arcs nodes a n r
+        → (number r ≡ 9) ↔ ((f : ℕ → ℕ) → Flow p f → ⊥)
+    no-exactly-if-no-flow {a} Runs x = (λ no. absurd (omega arith), λ none. absurd (none (at a) (x .says .1 .0 .first .flow)))
+    no-exactly-if-no-flow (Short v) x = (λ no f c. flow-or-lack accepted c (x .says .1), λ none. refl)
+    no-exactly-if-no-flow (Refused m i) x = absurd (accepted-or-refused accepted (x .says .0))

@@ -11,12 +11,11 @@ use plan::Verdict;
 use rooms::Rooms;
 use stand::Asked;
 use stand::ask::ask;
-ghost use mathlib.Core.Path.{_≡_};
-ghost use Prim.Native.Nat.{ℕ, _≤_, _/_};
+ghost use Prim.Native.Nat.{_≤_, _/_};
 ghost use lib.ListN.{length};
-ghost use Rattle.rooms.specs.Room.{at, Lent};
 ghost use Rattle.plan.specs.Limits.{arc-entries};
 ghost use Rattle.plan.specs.Plan.{WellFormed, plan-of};
+ghost use Rattle.stand.specs.Desk.{EmptyDesk};
 ghost use Rattle.flow.specs.Answer.{Told, FlowAnswers};
 
 // Works a well-formed plan out on a desk that is lent: rooms, over and under hold zeros.
@@ -30,11 +29,8 @@ fn work_out_on(
     under: &mut [u32],
     marks: &mut [u8],
 ) -> Asked
-    requires plan { ⌜ WellFormed (plan-of (now arcs) (now supplies)) ⌝ }
+    requires desk { ⌜ EmptyDesk (now arcs) (now supplies) (now rooms) (now over) (now under) (now marks) ⌝ }
     requires whole { ⌜ (length (now arcs) / arc-entries ≤ length (now «arc_buffer»)) × (length (now supplies) ≤ length (now «node_buffer»)) ⌝ }
-    requires lent { ⌜ Lent (length (now supplies)) (now rooms) (now over) (now under) ⌝ }
-    requires empty { ⌜ ((i : ℕ) → (at (now rooms) i ≡ 0) × (at (now over) i ≡ 0) × (at (now under) i ≡ 0)) ⌝ }
-    requires marks { ⌜ length (now supplies) ≤ length (now marks) ⌝ }
     ensures { λ r. ⌜ Told (plan-of (now (arcs .entry)) (now (supplies .entry))) (now («arc_buffer» .entry)) (now («node_buffer» .entry)) (now («arc_buffer» .exit)) (now («node_buffer» .exit)) r ⌝ }
 {
     let asked = ask(arcs, supplies, rooms, over, under, marks);

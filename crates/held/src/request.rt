@@ -12,13 +12,14 @@ use stand::ask::ask;
 use stand::build::arc_at;
 ghost use mathlib.Core.Path.{_≡_};
 ghost use mathlib.Core.Bool.{true, false, _||_};
-ghost use Prim.Native.Nat.{ℕ, _≤_, _<_, _/_};
+ghost use Prim.Native.Nat.{_≤_, _<_, _/_};
 ghost use lib.Dec.{ltb};
 ghost use lib.ListN.{length};
-ghost use Rattle.rooms.specs.Room.{at, seen, Lent};
+ghost use Rattle.rooms.specs.Room.{at, seen};
 ghost use Rattle.plan.specs.Limits.{arc-entries};
 ghost use Rattle.plan.specs.Plan.{WellFormed, plan-of};
 ghost use Rattle.plan.specs.Flow.{OutsideRange, held};
+ghost use Rattle.stand.specs.Desk.{EmptyDesk, ReadyDesk};
 ghost use Rattle.stand.specs.State.{Ready};
 ghost use Rattle.one_arc.specs.Standing.{Possible};
 ghost use Rattle.held.specs.Answer.{Flowing, Told, HeldAnswers};
@@ -44,11 +45,8 @@ fn hold_arc(
     under: &mut [u32],
     marks: &mut [u8],
 )
-    requires plan { ⌜ WellFormed (plan-of (now arcs) (now supplies)) ⌝ }
+    requires ready { ⌜ ReadyDesk (now arcs) (now supplies) (now rooms) (now over) (now under) (now marks) ⌝ }
     requires arc { ⌜ k < length (now arcs) / arc-entries ⌝ }
-    requires lent { ⌜ Lent (length (now supplies)) (now rooms) (now over) (now under) ⌝ }
-    requires marks { ⌜ length (now supplies) ≤ length (now marks) ⌝ }
-    requires ready { ⌜ Ready (plan-of (now arcs) (now supplies)) (seen (now rooms) false) (at (now over)) (at (now under)) ⌝ }
     requires possible { ⌜ Possible (plan-of (now arcs) (now supplies)) k count ⌝ }
     ensures { λ r. ⌜ Ready (held (plan-of (now (arcs .entry)) (now (supplies .entry))) k count) (seen (now (rooms .exit)) false) (at (now (over .exit))) (at (now (under .exit))) ⌝ }
 {
@@ -81,14 +79,11 @@ fn out_of_range(
     under: &mut [u32],
     marks: &mut [u8],
 ) -> bool
-    requires plan { ⌜ WellFormed (plan-of (now arcs) (now supplies)) ⌝ }
+    requires ready { ⌜ ReadyDesk (now arcs) (now supplies) (now rooms) (now over) (now under) (now marks) ⌝ }
     requires arc { ⌜ k < length (now arcs) / arc-entries ⌝ }
-    requires lent { ⌜ Lent (length (now supplies)) (now rooms) (now over) (now under) ⌝ }
-    requires marks { ⌜ length (now supplies) ≤ length (now marks) ⌝ }
-    requires ready { ⌜ Ready (plan-of (now arcs) (now supplies)) (seen (now rooms) false) (at (now over)) (at (now under)) ⌝ }
     ensures outside { λ r. ⌜ (r ≡ true → OutsideRange (plan-of (now (arcs .entry)) (now (supplies .entry))) k count) ⌝ }
     ensures possible { λ r. ⌜ (r ≡ false → Possible (plan-of (now (arcs .entry)) (now (supplies .entry))) k count) ⌝ }
-    ensures ready { λ r. ⌜ Ready (plan-of (now (arcs .entry)) (now (supplies .entry))) (seen (now (rooms .exit)) false) (at (now (over .exit))) (at (now (under .exit))) ⌝ }
+    ensures ready { λ r. ⌜ ReadyDesk (now (arcs .entry)) (now (supplies .entry)) (now (rooms .exit)) (now (over .exit)) (now (under .exit)) (now (marks .exit)) ⌝ }
 {
     let low = end_for(arcs, supplies, k, false, rooms, over, under, marks);
     let high = end_for(arcs, supplies, k, true, rooms, over, under, marks);
@@ -107,12 +102,9 @@ fn write_held(
     under: &mut [u32],
     marks: &mut [u8],
 )
-    requires plan { ⌜ WellFormed (plan-of (now arcs) (now supplies)) ⌝ }
+    requires ready { ⌜ ReadyDesk (now arcs) (now supplies) (now rooms) (now over) (now under) (now marks) ⌝ }
     requires arc { ⌜ k < length (now arcs) / arc-entries ⌝ }
     requires whole { ⌜ length (now arcs) / arc-entries ≤ length (now «arc_buffer») ⌝ }
-    requires lent { ⌜ Lent (length (now supplies)) (now rooms) (now over) (now under) ⌝ }
-    requires marks { ⌜ length (now supplies) ≤ length (now marks) ⌝ }
-    requires ready { ⌜ Ready (plan-of (now arcs) (now supplies)) (seen (now rooms) false) (at (now over)) (at (now under)) ⌝ }
     requires possible { ⌜ Possible (plan-of (now arcs) (now supplies)) k count ⌝ }
     ensures { λ r. ⌜ Flowing (plan-of (now (arcs .entry)) (now (supplies .entry))) k count (now («arc_buffer» .entry)) (now («arc_buffer» .exit)) ⌝ }
 {
@@ -142,12 +134,9 @@ fn hold_and_write(
     under: &mut [u32],
     marks: &mut [u8],
 ) -> Answer
-    requires plan { ⌜ WellFormed (plan-of (now arcs) (now supplies)) ⌝ }
+    requires ready { ⌜ ReadyDesk (now arcs) (now supplies) (now rooms) (now over) (now under) (now marks) ⌝ }
     requires arc { ⌜ k < length (now arcs) / arc-entries ⌝ }
     requires whole { ⌜ length (now arcs) / arc-entries ≤ length (now «arc_buffer») ⌝ }
-    requires lent { ⌜ Lent (length (now supplies)) (now rooms) (now over) (now under) ⌝ }
-    requires marks { ⌜ length (now supplies) ≤ length (now marks) ⌝ }
-    requires ready { ⌜ Ready (plan-of (now arcs) (now supplies)) (seen (now rooms) false) (at (now over)) (at (now under)) ⌝ }
     ensures { λ r. ⌜ Told (plan-of (now (arcs .entry)) (now (supplies .entry))) k count (now («arc_buffer» .entry)) (now («arc_buffer» .exit)) r ⌝ }
 {
     if out_of_range(arcs, supplies, k, count, rooms, over, under, marks) {
@@ -179,12 +168,9 @@ fn work_out_on(
     under: &mut [u32],
     marks: &mut [u8],
 ) -> Answer
-    requires plan { ⌜ WellFormed (plan-of (now arcs) (now supplies)) ⌝ }
+    requires desk { ⌜ EmptyDesk (now arcs) (now supplies) (now rooms) (now over) (now under) (now marks) ⌝ }
     requires arc { ⌜ k < length (now arcs) / arc-entries ⌝ }
     requires whole { ⌜ length (now arcs) / arc-entries ≤ length (now «arc_buffer») ⌝ }
-    requires lent { ⌜ Lent (length (now supplies)) (now rooms) (now over) (now under) ⌝ }
-    requires empty { ⌜ ((i : ℕ) → (at (now rooms) i ≡ 0) × (at (now over) i ≡ 0) × (at (now under) i ≡ 0)) ⌝ }
-    requires marks { ⌜ length (now supplies) ≤ length (now marks) ⌝ }
     ensures { λ r. ⌜ Told (plan-of (now (arcs .entry)) (now (supplies .entry))) k count (now («arc_buffer» .entry)) (now («arc_buffer» .exit)) r ⌝ }
 {
     let asked = ask(arcs, supplies, rooms, over, under, marks);

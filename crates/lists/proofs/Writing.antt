@@ -1,5 +1,5 @@
 -- What is written to a buffer: numbers that agree are written alike, and leave one content.
-use Prim.Native.Nat.{ℕ, _≤_, _<_}
+use Prim.Native.Nat.{ℕ, _<_}
 use mathlib.Core.Path.{_≡_, sym, _∙_}
 use mathlib.Core.List.{List}
 use lib.ListN.{length}

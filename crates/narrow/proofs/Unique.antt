@@ -1,17 +1,18 @@
 -- For every input the promise of narrowing admits one answer and one content of each buffer: narrowed ranges are unique, and a
 -- plan that is short has no flow and is short by one value.
-use Prim.Native.Nat.{ℕ}
+use Prim.Native.Nat.{ℕ, _≤_}
 use mathlib.Core.Path.{_≡_, refl, sym, ap, _∙_}
 use mathlib.Core.List.{List}
 use mathlib.Core.Logic.{_↔_}
 use native.Mathlib.Omega.{arith}
 use lib.IntN.{ℤ}
-use Rattle.plan.specs.Plan.{Plan, Set}
+use lib.ListN.{length}
+use Rattle.plan.specs.Plan.{Plan, Set, WellFormed}
 use Rattle.plan.specs.Flow.{Flow}
 use Rattle.plan.specs.Shortage.{ShortBy}
 use Rattle.plan.specs.declared.Verdict.the-variants.{Accepted}
 use Rattle.plan.proofs.Refusals.{accepted-or-refused}
-use Rattle.plan.proofs.Checked.{accepted-plan}
+use Rattle.plan.proofs.Checked.{accepted-plan, well-formed-judged, both-long}
 use Rattle.plan.proofs.Unique.{narrowed-unique, short-by-unique, short-or-flow}
 use Rattle.lists.proofs.Entries.{one-content}
 use Rattle.flow.specs.Answer.{number}
@@ -54,10 +55,14 @@ module _ (p : Plan) (lows highs : List ℕ) where
     x .says .2 ∙ sym (y .says .2),
   )
 
-  -- an accepted plan gets number 9 exactly if no flow exists
-  pub narrow-no-exactly-if-no-flow : {l h : List ℕ} (r : Answer) → judged p lows highs ≡ Accepted
-      → NarrowAnswers p lows highs l h r → (number r ≡ 9) ↔ ((f : ℕ → ℕ) → Flow p f → ⊥)
-  narrow-no-exactly-if-no-flow Runs e x =
-      (λ no. absurd (omega arith), λ none. absurd (none (x .says .1 .has-flow .counts) (x .says .1 .has-flow .flow)))
-  narrow-no-exactly-if-no-flow (Short v) e x = (λ no f c. flow-or-short e c (x .says .1 .0), λ none. refl)
-  narrow-no-exactly-if-no-flow (Refused m i) e x = absurd (accepted-or-refused e (x .says .0))
+  -- a well-formed plan with long enough buffers gets number 9 exactly if no flow exists
+  module _ (w : WellFormed p) (lows-long : p .arcs ≤ length lows) (highs-long : p .arcs ≤ length highs) where
+    accepted : judged p lows highs ≡ Accepted
+    accepted = well-formed-judged p w (both-long lows highs lows-long highs-long)
+
+    pub narrow-no-exactly-if-no-flow : {l h : List ℕ} (r : Answer) → NarrowAnswers p lows highs l h r
+        → (number r ≡ 9) ↔ ((f : ℕ → ℕ) → Flow p f → ⊥)
+    narrow-no-exactly-if-no-flow Runs x =
+        (λ no. absurd (omega arith), λ none. absurd (none (x .says .1 .has-flow .counts) (x .says .1 .has-flow .flow)))
+    narrow-no-exactly-if-no-flow (Short v) x = (λ no f c. flow-or-short accepted c (x .says .1 .0), λ none. refl)
+    narrow-no-exactly-if-no-flow (Refused m i) x = absurd (accepted-or-refused accepted (x .says .0))

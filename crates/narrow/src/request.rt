@@ -10,14 +10,13 @@ use rooms::Rooms;
 use stand::Asked;
 use stand::ask::ask;
 ghost use mathlib.Core.Path.{_≡_};
-ghost use mathlib.Core.Bool.{false};
 ghost use Prim.Native.Nat.{ℕ, _≤_, _<_, _/_};
 ghost use lib.ListN.{length};
-ghost use Rattle.rooms.specs.Room.{at, seen, Lent};
+ghost use Rattle.rooms.specs.Room.{at};
 ghost use Rattle.plan.specs.Limits.{arc-entries};
 ghost use Rattle.plan.specs.Plan.{WellFormed, plan-of};
 ghost use Rattle.plan.specs.Reason.{NarrowedEnd};
-ghost use Rattle.stand.specs.State.{Ready};
+ghost use Rattle.stand.specs.Desk.{EmptyDesk, ReadyDesk};
 ghost use Rattle.narrow.specs.Answer.{Told, NarrowAnswers};
 
 // Writes the smallest count of each arc, or with `upper` the largest. The flow that was found is carried
@@ -32,14 +31,11 @@ fn write_ends(
     under: &mut [u32],
     marks: &mut [u8],
 )
-    requires plan { ⌜ WellFormed (plan-of (now arcs) (now supplies)) ⌝ }
-    requires lent { ⌜ Lent (length (now supplies)) (now rooms) (now over) (now under) ⌝ }
-    requires marks { ⌜ length (now supplies) ≤ length (now marks) ⌝ }
-    requires ready { ⌜ Ready (plan-of (now arcs) (now supplies)) (seen (now rooms) false) (at (now over)) (at (now under)) ⌝ }
+    requires ready { ⌜ ReadyDesk (now arcs) (now supplies) (now rooms) (now over) (now under) (now marks) ⌝ }
     requires whole { ⌜ length (now arcs) / arc-entries ≤ length (now ends) ⌝ }
     ensures ends { λ r. ⌜ ((k : ℕ) → k < length (now (arcs .entry)) / arc-entries → NarrowedEnd (plan-of (now (arcs .entry)) (now (supplies .entry))) k upper (at (now (ends .exit)) k)) ⌝ }
     ensures past { λ r. ⌜ ((i : ℕ) → length (now (arcs .entry)) / arc-entries ≤ i → at (now (ends .exit)) i ≡ at (now (ends .entry)) i) ⌝ }
-    ensures ready { λ r. ⌜ Ready (plan-of (now (arcs .entry)) (now (supplies .entry))) (seen (now (rooms .exit)) false) (at (now (over .exit))) (at (now (under .exit))) ⌝ }
+    ensures ready { λ r. ⌜ ReadyDesk (now (arcs .entry)) (now (supplies .entry)) (now (rooms .exit)) (now (over .exit)) (now (under .exit)) (now (marks .exit)) ⌝ }
 {
     let count = arcs.len() / Arc::ENTRIES;
     let mut k = 0;
@@ -60,11 +56,8 @@ fn work_out_on(
     under: &mut [u32],
     marks: &mut [u8],
 ) -> Asked
-    requires plan { ⌜ WellFormed (plan-of (now arcs) (now supplies)) ⌝ }
+    requires desk { ⌜ EmptyDesk (now arcs) (now supplies) (now rooms) (now over) (now under) (now marks) ⌝ }
     requires whole { ⌜ (length (now arcs) / arc-entries ≤ length (now lows)) × (length (now arcs) / arc-entries ≤ length (now highs)) ⌝ }
-    requires lent { ⌜ Lent (length (now supplies)) (now rooms) (now over) (now under) ⌝ }
-    requires empty { ⌜ ((i : ℕ) → (at (now rooms) i ≡ 0) × (at (now over) i ≡ 0) × (at (now under) i ≡ 0)) ⌝ }
-    requires marks { ⌜ length (now supplies) ≤ length (now marks) ⌝ }
     ensures { λ r. ⌜ Told (plan-of (now (arcs .entry)) (now (supplies .entry))) (now (lows .entry)) (now (highs .entry)) (now (lows .exit)) (now (highs .exit)) r ⌝ }
 {
     let asked = ask(arcs, supplies, rooms, over, under, marks);

@@ -2,14 +2,12 @@
 // after. Internal.
 use crate::counts::end_of;
 use stand::build::arc_at;
-ghost use mathlib.Core.Bool.{false};
-ghost use Prim.Native.Nat.{_≤_, _<_, _/_};
+ghost use Prim.Native.Nat.{_<_, _/_};
 ghost use lib.ListN.{length};
-ghost use Rattle.rooms.specs.Room.{at, seen, Lent};
 ghost use Rattle.plan.specs.Limits.{arc-entries};
-ghost use Rattle.plan.specs.Plan.{WellFormed, plan-of};
+ghost use Rattle.plan.specs.Plan.{plan-of};
 ghost use Rattle.plan.specs.Reason.{NarrowedEnd};
-ghost use Rattle.stand.specs.State.{Ready};
+ghost use Rattle.stand.specs.Desk.{ReadyDesk};
 
 // The smallest count of arc k over all flows, or with `upper` the largest.
 pub fn end_for(
@@ -22,13 +20,10 @@ pub fn end_for(
     under: &mut [u32],
     marks: &mut [u8],
 ) -> u32
-    requires plan { ⌜ WellFormed (plan-of (now arcs) (now supplies)) ⌝ }
-    requires lent { ⌜ Lent (length (now supplies)) (now rooms) (now over) (now under) ⌝ }
-    requires marks { ⌜ length (now supplies) ≤ length (now marks) ⌝ }
+    requires ready { ⌜ ReadyDesk (now arcs) (now supplies) (now rooms) (now over) (now under) (now marks) ⌝ }
     requires arc { ⌜ k < length (now arcs) / arc-entries ⌝ }
-    requires ready { ⌜ Ready (plan-of (now arcs) (now supplies)) (seen (now rooms) false) (at (now over)) (at (now under)) ⌝ }
     ensures end { λ r. ⌜ NarrowedEnd (plan-of (now (arcs .entry)) (now (supplies .entry))) k upper r ⌝ }
-    ensures ready { λ r. ⌜ Ready (plan-of (now (arcs .entry)) (now (supplies .entry))) (seen (now (rooms .exit)) false) (at (now (over .exit))) (at (now (under .exit))) ⌝ }
+    ensures ready { λ r. ⌜ ReadyDesk (now (arcs .entry)) (now (supplies .entry)) (now (rooms .exit)) (now (over .exit)) (now (under .exit)) (now (marks .exit)) ⌝ }
 {
     let arc = arc_at(arcs, k);
     let n = supplies.len();

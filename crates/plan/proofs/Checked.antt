@@ -7,13 +7,13 @@ use lib.Dec.{ltb}
 use lib.IntN.{ℤ}
 use lib.ListN.{length}
 use native.Mathlib.Omega.{arith}
-use borrow.Author.Tests.{ltb-false}
+use borrow.Author.Tests.{ltb-false, le-ltb}
 use Rattle.plan.specs.Limits.{arc-entries}
 use Rattle.plan.specs.Plan.{Plan, WellFormed}
 use Rattle.plan.specs.Verdict.{verdict, network-rules, asking-rules, lent-short, lists-short}
 use Rattle.plan.specs.declared.Verdict.{Verdict}
 use Rattle.plan.specs.declared.Verdict.the-variants.{Accepted}
-use Rattle.plan.proofs.Refusals.{accepted-well-formed, accepted-buffers-fit, neither}
+use Rattle.plan.proofs.Refusals.{accepted-well-formed, accepted-buffers-fit, well-formed-accepted, last-passes, neither}
 
 -- two lent buffers, of which m and n entries are asked, and which the check was told of
 module _ (p : Plan) (first second : List ℕ) {short : Bool} {m n m′ n′ : ℕ} (m-is : m ≡ m′) (n-is : n ≡ n′)
@@ -42,6 +42,17 @@ module _ (p : Plan) (first second : List ℕ) (m n : ℕ) (accepted : verdict (n
 
   pub second-fits : n ≤ length second
   second-fits = ltb-false (length second) n (both-fit .1)
+
+-- and back: a well-formed plan is accepted, where no buffer is too short and nothing that is asked about is missing
+module _ (p : Plan) (w : WellFormed p) {short : Bool} (long : short ≡ false) where
+  pub well-formed-judged : verdict (network-rules p short) ≡ Accepted
+  well-formed-judged = rw long (well-formed-accepted p w)
+
+  pub well-formed-asked : {missing : Bool} → missing ≡ false → verdict (asking-rules p short missing) ≡ Accepted
+  well-formed-asked {missing} there = last-passes (network-rules p short) 8 missing well-formed-judged there
+
+pub both-long : (first second : List ℕ) {m n : ℕ} → m ≤ length first → n ≤ length second → lent-short first m second n ≡ false
+both-long first second {m} {n} first-long second-long = rw (le-ltb (length first) m first-long, le-ltb (length second) n second-long)
 
 -- what the two lent lists lack, told by counts that are the plan's
 pub lists-told : (p : Plan) (supplies : List ℤ) (arcs : List ℕ) {nodes count : ℕ} {short : Bool} → nodes ≡ p .nodes → count ≡ p .arcs

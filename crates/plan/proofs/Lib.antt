@@ -11,6 +11,7 @@ pub mod Demand3
 pub mod Alike
 pub mod Refusals
 pub mod Narrowing
+pub mod NarrowedEnds
 pub mod First
 pub mod Sets
 pub mod Tried

@@ -1,12 +1,13 @@
 -- The plans that document 01 works by hand, as one table under one theorem: every row holds of its plan.
 -- First the table, then what a row says, by the definitions of specs/ alone, then the theorem: each row is tried.
--- At the end stands a fact about citing that no plan of the table shows.
+-- At the end stand two facts about citing that no plan of the table shows.
 use Prim.Native.Nat.{ℕ, _<_}
 use mathlib.Core.Path.{_≡_}
-use mathlib.Core.Bool.{and-false}
+use mathlib.Core.Bool.{Bool, true, false, cond, _&&_, and-false}
 use mathlib.Core.List.{List, [], _∷_, _++_, map}
 use mathlib.Core.Logic.{Dec·and}
 use mathlib.Core.Option.{Option, some, get, orElse, bind as _>>=_}
+use native.Mathlib.Omega.{arith}
 use native.Mathlib.Decide.{ℕ-discrete, decLt}
 use lib.Dec.{eqb}
 use lib.ListN.{length, getD}
@@ -17,7 +18,7 @@ use Rattle.plan.specs.Limits.{widest-low, widest-high}
 use Rattle.plan.specs.Plan.{Plan, Set, WellFormed, plan-of}
 use Rattle.plan.specs.Flow.{FirstFlow, Narrowed}
 use Rattle.plan.specs.Shortage.{supplies, shortfall, ShortBy}
-use Rattle.plan.specs.Reason.{forces, allows, LowReason, HighReason, mark, no-marks, low-marks, high-marks}
+use Rattle.plan.specs.Reason.{forces, allows, LowReason, HighReason, high-is-news, low-is-news, mark, no-marks, low-marks, high-marks}
 use Rattle.plan.proofs.Tried.{decided?, each?, well-formed?, first-flow?, shortage?, smallest?, largest?, low-reason?, high-reason?}
 
 -- ---- the table
@@ -185,8 +186,20 @@ worked-plans = get (each? (length table) (λ i l. row? (worked i))) tt
 
 -- ---- what no worked plan shows
 
--- a bound at the widest end in a sum: an arc with the widest range is not cited, whatever the sum uses
-pub widest-uncited : (p : Plan) (high-used low-used : Set) (j : ℕ) → p .low j ≡ widest-low → p .high j ≡ widest-high
-    → mark p high-used low-used j ≡ 0
-widest-uncited p high-used low-used j low high =
-    simp (eq-eqb (p .low j) widest-low low, eq-eqb (p .high j) widest-high high, and-false)
+-- a choice between two numbers is no third
+neither : (t : Bool) (a b n : ℕ) → (a ≡ n → ⊥) → (b ≡ n → ⊥) → cond t a b ≡ n → ⊥
+neither true a b n not-a not-b = not-a
+neither false a b n not-a not-b = not-b
+
+-- a bound at the widest end in a sum: it is not cited, whatever the sum uses and whatever the arc's other bound is
+pub widest-low-uncited : (p : Plan) (high-used low-used : Set) (j : ℕ) → p .low j ≡ widest-low
+    → mark p high-used low-used j ≡ 1 → ⊥
+widest-low-uncited p high-used low-used j low =
+    simp (eq-eqb (p .low j) widest-low low, and-false)
+    (neither (high-used j && high-is-news p j) 2 0 1 (λ e. omega arith) (λ e. omega arith))
+
+pub widest-high-uncited : (p : Plan) (high-used low-used : Set) (j : ℕ) → p .high j ≡ widest-high
+    → mark p high-used low-used j ≡ 2 → ⊥
+widest-high-uncited p high-used low-used j high =
+    simp (eq-eqb (p .high j) widest-high high, and-false)
+    (neither (low-used j && low-is-news p j) 1 0 2 (λ e. omega arith) (λ e. omega arith))

@@ -1,6 +1,6 @@
 -- For every input the promise about an end's reason admits one answer and one content of each buffer: an end is narrowed to
 -- one value, by one set; where it has a reason it does not stand; and a plan that is short has no narrowed end.
-use Prim.Native.Nat.{ℕ, _<_}
+use Prim.Native.Nat.{ℕ, _≤_, _<_}
 use mathlib.Core.Path.{_≡_, refl, sym, ap, _∙_}
 use mathlib.Core.Bool.{Bool}
 use mathlib.Core.List.{List}
@@ -8,6 +8,7 @@ use mathlib.Core.Logic.{_↔_}
 use native.Mathlib.Omega.{arith}
 use lib.IntN.{ℤ}
 use lib.ListN.{length}
+use borrow.Author.Tests.{lt-leb, le-ltb}
 use Rattle.numbers.specs.Sums.{only}
 use Rattle.plan.specs.Plan.{Plan, Set, WellFormed}
 use Rattle.plan.specs.Flow.{Flow}
@@ -15,10 +16,11 @@ use Rattle.plan.specs.Shortage.{ShortBy}
 use Rattle.plan.specs.Reason.{own-end, NarrowedEnd}
 use Rattle.plan.specs.declared.Verdict.the-variants.{Accepted}
 use Rattle.plan.proofs.Refusals.{accepted-or-refused}
+use Rattle.plan.proofs.Checked.{well-formed-asked, both-long}
 use Rattle.plan.proofs.Unique.{short-by-unique, short-or-flow}
 use Rattle.plan.proofs.EitherEnd.{end-unique, end-occurs, end-or-short, reason-end, reason-moved, end-set-unique, end-marks-alike}
 use Rattle.lists.proofs.Writing.{written-unique}
-use Rattle.reason.specs.Answer.{number, is-high, judged, Cited, ReasonAnswers}
+use Rattle.reason.specs.Answer.{number, missing, is-high, judged, Cited, ReasonAnswers}
 use Rattle.reason.specs.declared.Answer.{Answer}
 use Rattle.reason.specs.declared.Answer.the-variants.{Stands, Moved, Short, Refused}
 use Rattle.reason.proofs.Answering.{request-accepted}
@@ -96,13 +98,17 @@ module _ (p : Plan) (arc end : ℕ) (arcs nodes : List ℕ) where
   none-or-end : {A : Type 0} (v : ℕ) → NarrowedEnd p arc (is-high end) v → ((f : ℕ → ℕ) → Flow p f → ⊥) → A
   none-or-end v narrowed none = let o = end-occurs p arc (is-high end) v narrowed in absurd (none (o .counts) (o .flow))
 
-  -- an accepted request gets number 9 exactly if no flow exists
-  pub reason-no-exactly-if-no-flow : {a n : List ℕ} (r : Answer) → judged p arc end arcs nodes ≡ Accepted
-      → ReasonAnswers p arc end arcs nodes a n r → (number r ≡ 9) ↔ ((f : ℕ → ℕ) → Flow p f → ⊥)
-  reason-no-exactly-if-no-flow Stands e x =
-      (λ no. absurd (omega arith), none-or-end (own-end p arc (is-high end)) (x .says .1 .0))
-  reason-no-exactly-if-no-flow (Moved v) e x =
-      (λ no. absurd (omega arith), none-or-end v (cited-end p arc (is-high end) (x .says .1)))
-  reason-no-exactly-if-no-flow (Short s) e x =
-      (λ no f c. short-or-flow (request-accepted p arc end arcs nodes e .0) (x .says .1 .0 .1) c, λ none. refl)
-  reason-no-exactly-if-no-flow (Refused m i) e x = absurd (accepted-or-refused e (x .says .0))
+  -- a well-formed plan with long enough buffers, asked about an end that it has, gets number 9 exactly if no flow exists
+  module _ (w : WellFormed p) (there : arc < p .arcs) (an-end : end ≤ 1) (arcs-long : p .arcs ≤ length arcs)
+      (nodes-long : p .nodes ≤ length nodes) where
+    accepted : judged p arc end arcs nodes ≡ Accepted
+    accepted = well-formed-asked p w (both-long arcs nodes arcs-long nodes-long) {missing = missing p arc end} (rw (lt-leb (p .arcs) arc there, le-ltb 1 end an-end))
+
+    pub reason-no-exactly-if-no-flow : {a n : List ℕ} (r : Answer) → ReasonAnswers p arc end arcs nodes a n r
+        → (number r ≡ 9) ↔ ((f : ℕ → ℕ) → Flow p f → ⊥)
+    reason-no-exactly-if-no-flow Stands x =
+        (λ no. absurd (omega arith), none-or-end (own-end p arc (is-high end)) (x .says .1 .0))
+    reason-no-exactly-if-no-flow (Moved v) x =
+        (λ no. absurd (omega arith), none-or-end v (cited-end p arc (is-high end) (x .says .1)))
+    reason-no-exactly-if-no-flow (Short s) x = (λ no f c. short-or-flow w (x .says .1 .0 .1) c, λ none. refl)
+    reason-no-exactly-if-no-flow (Refused m i) x = absurd (accepted-or-refused accepted (x .says .0))

@@ -13,14 +13,13 @@ use stand::Asked;
 use stand::ask::ask;
 use stand::build::arc_at;
 ghost use mathlib.Core.Path.{_≡_};
-ghost use mathlib.Core.Bool.{false, _||_};
-ghost use Prim.Native.Nat.{ℕ, _≤_, _<_, _/_};
+ghost use mathlib.Core.Bool.{_||_};
+ghost use Prim.Native.Nat.{_≤_, _<_, _/_};
 ghost use lib.Dec.{leb, ltb};
 ghost use lib.ListN.{length};
-ghost use Rattle.rooms.specs.Room.{at, seen, Lent};
 ghost use Rattle.plan.specs.Limits.{arc-entries};
 ghost use Rattle.plan.specs.Plan.{WellFormed, plan-of};
-ghost use Rattle.stand.specs.State.{Ready};
+ghost use Rattle.stand.specs.Desk.{EmptyDesk, ReadyDesk};
 ghost use Rattle.reason.specs.Answer.{Told, ReasonAnswers};
 ghost use Rattle.reason.specs.Freed.{Freed};
 
@@ -46,11 +45,8 @@ fn free_of(
     under: &mut [u32],
     marks: &mut [u8],
 ) -> u32
-    requires plan { ⌜ WellFormed (plan-of (now arcs) (now supplies)) ⌝ }
+    requires ready { ⌜ ReadyDesk (now arcs) (now supplies) (now rooms) (now over) (now under) (now marks) ⌝ }
     requires arc { ⌜ k < length (now arcs) / arc-entries ⌝ }
-    requires lent { ⌜ Lent (length (now supplies)) (now rooms) (now over) (now under) ⌝ }
-    requires marks { ⌜ length (now supplies) ≤ length (now marks) ⌝ }
-    requires ready { ⌜ Ready (plan-of (now arcs) (now supplies)) (seen (now rooms) false) (at (now over)) (at (now under)) ⌝ }
     ensures { λ r. ⌜ Freed (plan-of (now (arcs .entry)) (now (supplies .entry))) k upper r (now (marks .exit)) ⌝ }
 {
     let arc = arc_at(arcs, k);
@@ -77,12 +73,9 @@ fn explain(
     under: &mut [u32],
     marks: &mut [u8],
 ) -> Answer
-    requires plan { ⌜ WellFormed (plan-of (now arcs) (now supplies)) ⌝ }
+    requires ready { ⌜ ReadyDesk (now arcs) (now supplies) (now rooms) (now over) (now under) (now marks) ⌝ }
     requires arc { ⌜ k < length (now arcs) / arc-entries ⌝ }
     requires whole { ⌜ (length (now arcs) / arc-entries ≤ length (now «arc_buffer»)) × (length (now supplies) ≤ length (now «node_buffer»)) ⌝ }
-    requires lent { ⌜ Lent (length (now supplies)) (now rooms) (now over) (now under) ⌝ }
-    requires marks { ⌜ length (now supplies) ≤ length (now marks) ⌝ }
-    requires ready { ⌜ Ready (plan-of (now arcs) (now supplies)) (seen (now rooms) false) (at (now over)) (at (now under)) ⌝ }
     ensures { λ r. ⌜ Told (plan-of (now (arcs .entry)) (now (supplies .entry))) k upper (now («arc_buffer» .entry)) (now («node_buffer» .entry)) (now («arc_buffer» .exit)) (now («node_buffer» .exit)) r ⌝ }
 {
     let free = free_of(arcs, supplies, k, upper, rooms, over, under, marks);
@@ -108,12 +101,9 @@ fn work_out_on(
     under: &mut [u32],
     marks: &mut [u8],
 ) -> Answer
-    requires plan { ⌜ WellFormed (plan-of (now arcs) (now supplies)) ⌝ }
+    requires desk { ⌜ EmptyDesk (now arcs) (now supplies) (now rooms) (now over) (now under) (now marks) ⌝ }
     requires arc { ⌜ k < length (now arcs) / arc-entries ⌝ }
     requires whole { ⌜ (length (now arcs) / arc-entries ≤ length (now «arc_buffer»)) × (length (now supplies) ≤ length (now «node_buffer»)) ⌝ }
-    requires lent { ⌜ Lent (length (now supplies)) (now rooms) (now over) (now under) ⌝ }
-    requires empty { ⌜ ((i : ℕ) → (at (now rooms) i ≡ 0) × (at (now over) i ≡ 0) × (at (now under) i ≡ 0)) ⌝ }
-    requires marks { ⌜ length (now supplies) ≤ length (now marks) ⌝ }
     ensures { λ r. ⌜ Told (plan-of (now (arcs .entry)) (now (supplies .entry))) k upper (now («arc_buffer» .entry)) (now («node_buffer» .entry)) (now («arc_buffer» .exit)) (now («node_buffer» .exit)) r ⌝ }
 {
     let asked = ask(arcs, supplies, rooms, over, under, marks);

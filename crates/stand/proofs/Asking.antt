@@ -1,16 +1,15 @@
 -- What settling a plan shows. If nothing is over any more, everything balances. Otherwise the reach of what is over holds all of
 -- it and nothing that lacks, and no room leads out of it: it is the shortage set, and what is over is its shortfall.
-use Prim.Native.Nat.{ℕ, zero, suc, _<_}
+use Prim.Native.Nat.{ℕ, _<_}
 use mathlib.Core.Path.{_≡_, refl}
 use mathlib.Core.Bool.{Bool, true, false}
 use mathlib.Core.List.{List}
 use native.Mathlib.Omega.{arith}
-use lib.IntN.{ℤ, pos}
-use lib.ListN.{replicate}
+use lib.IntN.{pos}
 use Rattle.numbers.specs.Sums.{sum}
 use Rattle.numbers.proofs.Parts.{whole}
 use Rattle.numbers.proofs.Sums.{sum-member}
-use Rattle.rooms.specs.Room.{at, crossing, Small}
+use Rattle.rooms.specs.Room.{crossing, Small}
 use Rattle.reach.specs.Reach.{Closed, marked}
 use Rattle.engine.specs.Settle as E
 use Rattle.engine.proofs.Sweeping.{kept-small}
@@ -18,8 +17,7 @@ use Rattle.across.proofs.Raising.{crossing-closed, crossing-member}
 use Rattle.plan.specs.Plan.{Plan, Set, WellFormed}
 use Rattle.plan.proofs.Certificate.{Ledger, Settled, settled-shortage, settled-shortfall}
 use Rattle.stand.specs.State.{Represents, Ready}
-use Rattle.stand.specs.Ask.{Marked, AskedOf}
-use Rattle.stand.specs.declared.Asked.the-variants.{Balances, Lacks}
+use Rattle.stand.specs.Ask.{Marked}
 use Rattle.stand.proofs.Standing.{kept-represents, even-in-all}
 
 module _ {p : Plan} (w : WellFormed p) {room room′ : ℕ → ℕ → ℕ} {over under over′ under′ : ℕ → ℕ} {v : ℕ} {marks : List ℕ}
@@ -65,24 +63,3 @@ module _ {p : Plan} (w : WellFormed p) {room room′ : ℕ → ℕ → ℕ} {ove
     };
     small = kept-small (s .kept) small;
   }
-
--- what was asked is one of the two
-pub told-ready : {p : Plan} {room : ℕ → ℕ → ℕ} {over under : ℕ → ℕ} {marks : List ℕ} → Ready p room over under
-    → AskedOf p room over under marks Balances
-told-ready y = record {
-  balances = λ e. y;
-  lacks = λ value e. let clash : _≡_ {A = ℕ} 0 1 = cc in absurd (omega arith);
-}
-
-pub told-short : {p : Plan} {room : ℕ → ℕ → ℕ} {over under : ℕ → ℕ} {marks : List ℕ} {value : ℤ} → Marked p value marks
-    → AskedOf p room over under marks (Lacks value)
-told-short {value = value} m = record {
-  balances = λ e. let clash : _≡_ {A = ℕ} 0 1 = cc in absurd (omega arith);
-  lacks = λ other e. let same : value ≡ other = cc in rw same at m;
-}
-
--- a new array holds zeros
-pub zeros : (n i : ℕ) → at (replicate n 0) i ≡ 0
-zeros zero i = refl
-zeros (suc n) zero = refl
-zeros (suc n) (suc i) = zeros n i

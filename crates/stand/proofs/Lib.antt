@@ -1,3 +1,4 @@
 pub mod Building
 pub mod Standing
 pub mod Asking
+pub mod Desks

@@ -3,14 +3,13 @@ use crate::Asked;
 use crate::build::build;
 use engine::settle::settle;
 ghost use mathlib.Core.Path.{_≡_};
-ghost use mathlib.Core.Bool.{false};
-ghost use Prim.Native.Nat.{ℕ, _≤_, _<_};
+ghost use Prim.Native.Nat.{_≤_};
 ghost use lib.IntN.{pos};
 ghost use lib.ListN.{length};
 ghost use Rattle.numbers.specs.Sums.{sum};
-ghost use Rattle.rooms.specs.Room.{at, seen, Lent};
+ghost use Rattle.rooms.specs.Room.{at};
 ghost use Rattle.plan.specs.Limits.{most-nodes};
-ghost use Rattle.plan.specs.Plan.{WellFormed, plan-of};
+ghost use Rattle.stand.specs.Desk.{EmptyDesk};
 ghost use Rattle.stand.specs.Ask.{AskedOf};
 
 // The sum of the first n numbers.
@@ -37,11 +36,8 @@ pub fn ask(
     under: &mut [u32],
     marks: &mut [u8],
 ) -> Asked
-    requires plan { ⌜ WellFormed (plan-of (now arcs) (now supplies)) ⌝ }
-    requires lent { ⌜ Lent (length (now supplies)) (now rooms) (now over) (now under) ⌝ }
-    requires empty { ⌜ ((i : ℕ) → (at (now rooms) i ≡ 0) × (at (now over) i ≡ 0) × (at (now under) i ≡ 0)) ⌝ }
-    requires marks { ⌜ length (now supplies) ≤ length (now marks) ⌝ }
-    ensures { λ r. ⌜ AskedOf (plan-of (now (arcs .entry)) (now (supplies .entry))) (seen (now (rooms .exit)) false) (at (now (over .exit))) (at (now (under .exit))) (now (marks .exit)) r ⌝ }
+    requires { ⌜ EmptyDesk (now arcs) (now supplies) (now rooms) (now over) (now under) (now marks) ⌝ }
+    ensures { λ r. ⌜ AskedOf (now (arcs .entry)) (now (supplies .entry)) (now (rooms .exit)) (now (over .exit)) (now (under .exit)) (now (marks .exit)) r ⌝ }
 {
     let n = supplies.len();
     build(arcs, supplies, rooms, over, under);

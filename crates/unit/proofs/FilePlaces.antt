@@ -20,13 +20,12 @@ use Rattle.blocks.specs.Rules.{blocks-in, length-wrong, content-rules, reading-
 use Rattle.blocks.specs.Sound.{Sound}
 use Rattle.blocks.proofs.Accepted.{reading-accepted}
 use Rattle.blocks.proofs.Order.{payload-there}
-use Rattle.file.specs.Answer.{ReadAnswers, WriteAnswers, arcs-read, written-index, written-length, judged-block, shown}
+use Rattle.file.specs.Answer.{ReadAnswers, WriteAnswers, arcs-read, written-index, written-length, judged-block, shown, read-place}
 use Rattle.file.specs.declared.Answer.{Answer}
 use Rattle.file.specs.declared.Answer.the-variants.{Read, Refused}
 use Rattle.file.specs.declared.Written.{Written}
 use Rattle.file.specs.declared.Written.the-variants.{Length, Refused as NotWritten}
 use Rattle.crossing.specs.Payload.{part-of, PayloadAnswers}
-use Rattle.crossing.specs.Crossing.{read-place}
 use Rattle.unit.proofs.Places.{Few, verdict-small, network-small, small-place}
 
 -- ---- reading

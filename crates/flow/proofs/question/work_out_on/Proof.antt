@@ -5,8 +5,6 @@ use mir.Syntax.{w64}
 use Rattle.flow.proofs.Answering.{marked-lacking}
 use Rattle.plan.specs.Plan.{plan-of}
 use Rattle.first_flow.proofs.Firsts.{listed-whole}
-use Rattle.engine.proofs.Sweeping.{lent-still, still-fits}
-use native.Mathlib.Omega.{arith}
 use borrow.Author.Needs.{needs}
 use Rattle.flow.proofs.question.work_out_on.Statement.{statement}
 use Rattle.flow.proofs.question.work_out_on.Tie as tie
@@ -22,17 +20,10 @@ enum-told c = search needs
 
 first-flow-requires : tie.Need-first-flow-requires
 first-flow-requires c κs =
-    let pre = c .before .before .before .before .before .before .before .before .before .before .before .before .before .before .before .before .before .before .before .before .before .before .before .before .before .before .before .pre in
-    let k = c .before .before .before .before .before .before .before .before .before .before .before .before .before .before .before .ask .kept in (
-      lent-still (record { first-length = k .1 .1 .0; second-length = k .1 .1 .1 .0; third-length = k .1 .1 .1 .1 .0 }) (pre .1 .1 .0),
-      (
-        still-fits (k .1 .1 .1 .1 .1 .0) (pre .1 .1 .1 .1),
-        (
-          pre .1 .0 .0,
-          (plan-of (c .before .before .before .before .before .before .before .before .before .before .before .before .before .before .before .before .before .before .before .before .before .before .before .before .before .before .before .args .arcs .now) (c .before .before .before .before .before .before .before .before .before .before .before .before .before .before .before .before .before .before .before .before .before .before .before .before .before .before .before .args .supplies .now), (listed-whole (c .before .before .before .before .before .before .before .before .before .before .before .before .before .before .before .before .before .before .before .before .before .before .before .before .before .before .before .args .arcs .now) (c .before .before .before .before .before .before .before .before .before .before .before .before .before .before .before .before .before .before .before .before .before .before .before .before .before .before .before .args .supplies .now) 0, pre .0, c .before .before .before .before .before .before .before .before .before .before .before .before .before .before .before .ask .ensures .balances (c .before .before .before .before .before .enum-told .given .1))),
-        ),
-      ),
-    )
+    let on = c .before .before .before .before .before .before .before .before .before .before .before .before .before .before .before .ask .ensures .balances (c .before .before .before .before .before .enum-told .given .1) in
+    let arcs = c .before .before .before .before .before .before .before .before .before .before .before .before .before .before .before .before .before .before .before .before .before .before .before .before .before .before .before .args .arcs .now in
+    let supplies = c .before .before .before .before .before .before .before .before .before .before .before .before .before .before .before .before .before .before .before .before .before .before .before .before .before .before .before .args .supplies .now in
+    (on .desk .lent, (on .desk .marks-fit, (c .before .before .before .before .before .before .before .before .before .before .before .before .before .before .before .before .before .before .before .before .before .before .before .before .before .before .before .pre .1 .0, (plan-of arcs supplies, (listed-whole arcs supplies 0, on .desk .plan, on .ready)))))
 
 same-length : tie.Need-same-length
 same-length c = search needs
@@ -55,17 +46,17 @@ returns c =
     let arcs = c .before .before .before .before .before .before .before .before .before .before .before .before .before .before .before .before .before .before .before .before .before .before .before .before .before .before .before .before .before .before .before .before .before .before .before .before .before .before .args .arcs .now in
     let supplies = c .before .before .before .before .before .before .before .before .before .before .before .before .before .before .before .before .before .before .before .before .before .before .before .before .before .before .before .before .before .before .before .before .before .before .before .before .before .before .args .supplies .now in (
       record {
-        first = f .0 (plan-of arcs supplies) (listed-whole arcs supplies 0) (c .before .before .before .before .before .before .before .before .before .before .before .before .before .before .before .before .before .before .before .before .before .before .before .before .before .before .before .before .before .before .before .before .before .before .before .before .before .before .pre .0) (c .before .before .before .before .before .before .before .before .before .before .before .before .before .before .before .before .before .before .before .before .before .before .before .before .before .before .ask .ensures .balances (c .before .before .before .before .before .before .before .before .before .before .before .before .before .before .before .before .enum-told .given .1));
+        first = f .0 (plan-of arcs supplies) (listed-whole arcs supplies 0) (c .before .before .before .before .before .before .before .before .before .before .before .before .before .before .before .before .before .before .before .before .before .before .before .before .before .before .before .before .before .before .before .before .before .before .before .before .before .before .pre .0 .desk .plan) (c .before .before .before .before .before .before .before .before .before .before .before .before .before .before .before .before .before .before .before .before .before .before .before .before .before .before .ask .ensures .balances (c .before .before .before .before .before .before .before .before .before .before .before .before .before .before .before .before .enum-told .given .1) .ready);
         past = f .1;
       },
       refl,
     )
 
 mark-nodes-requires : tie.Need-mark-nodes-requires
-mark-nodes-requires c κs = (omega (arith, c .before .before .before .before .before .before .before .before .before .before .before .before .before .ask .kept .1 .1 .1 .1 .1 .0, c .before .before .before .before .before .before .before .before .before .before .before .before .before .before .before .before .before .before .before .before .before .before .before .before .before .pre .1 .1 .1 .1), c .before .before .before .before .before .before .before .before .before .before .before .before .before .before .before .before .before .before .before .before .before .before .before .before .before .pre .1 .0 .1)
+mark-nodes-requires c κs = (c .before .before .before .before .before .before .before .before .before .before .before .before .before .ask .ensures .desk .marks-fit, c .before .before .before .before .before .before .before .before .before .before .before .before .before .before .before .before .before .before .before .before .before .before .before .before .before .pre .1 .1)
 
 mark-arcs-requires : tie.Need-mark-arcs-requires
-mark-arcs-requires c κs = (c .before .before .before .before .before .before .before .before .before .before .before .before .before .before .before .before .before .before .before .before .before .before .before .before .before .before .before .before .before .before .pre .0, (omega (arith, c .before .before .before .before .before .before .before .before .before .before .before .before .before .before .before .before .before .before .ask .kept .1 .1 .1 .1 .1 .0, c .before .before .before .before .before .before .before .before .before .before .before .before .before .before .before .before .before .before .before .before .before .before .before .before .before .before .before .before .before .before .pre .1 .1 .1 .1), c .before .before .before .before .before .before .before .before .before .before .before .before .before .before .before .before .before .before .before .before .before .before .before .before .before .before .before .before .before .before .pre .1 .0 .0))
+mark-arcs-requires c κs = let desk = c .before .before .before .before .before .before .before .before .before .before .before .before .before .before .before .before .before .before .ask .ensures .desk in (desk .plan, (desk .marks-fit, c .before .before .before .before .before .before .before .before .before .before .before .before .before .before .before .before .before .before .before .before .before .before .before .before .before .before .before .before .before .before .pre .1 .0))
 
 same-length-6 : tie.Need-same-length-6
 same-length-6 c = search needs

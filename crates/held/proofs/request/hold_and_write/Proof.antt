@@ -1,12 +1,11 @@
 -- Outside the narrowed range nothing is written; inside it some flow has the count.
 use mathlib.Core.Path.{refl}
-use Rattle.engine.proofs.Sweeping.{lent-still, still-fits}
 use borrow.Author.Needs.{needs}
 use Rattle.held.proofs.request.hold_and_write.Statement.{statement}
 use Rattle.held.proofs.request.hold_and_write.Tie as tie
 
 out-of-range-requires : tie.Need-out-of-range-requires
-out-of-range-requires c κs = let pre = c .before .before .before .before .before .before .before .before .before .before .pre in (pre .0, (pre .1 .0, (pre .1 .1 .1 .0, (pre .1 .1 .1 .1 .0, pre .1 .1 .1 .1 .1))))
+out-of-range-requires c κs = let pre = c .before .before .before .before .before .before .before .before .before .before .pre in (pre .0, pre .1 .0)
 
 same-length : tie.Need-same-length
 same-length c = search needs
@@ -26,8 +25,8 @@ returns c = (c .before .before .before .before .before .before .before .before .
 write-held-requires : tie.Need-write-held-requires
 write-held-requires c κs =
     let pre = c .before .before .before .before .before .before .before .before .before .before .before .before .before .before .before .before .before .before .before .before .before .before .before .before .before .pre in
-    let k = c .before .before .before .before .before .before .before .before .before .before .before .before .before .before .out-of-range .kept in
-    (pre .0, (pre .1 .0, (pre .1 .1 .0, (lent-still (record { first-length = k .1 .1 .1 .1 .0; second-length = k .1 .1 .1 .1 .1 .0; third-length = k .1 .1 .1 .1 .1 .1 .0 }) (pre .1 .1 .1 .0), (still-fits (k .1 .1 .1 .1 .1 .1 .1 .0) (pre .1 .1 .1 .1 .0), (c .before .before .before .before .before .before .before .before .before .before .before .before .before .before .out-of-range .ensures .1 .1, c .before .before .before .before .before .before .before .before .before .before .before .before .before .before .out-of-range .ensures .1 .0 (c .before .before .before .before .before .if1 .left)))))))
+    let e = c .before .before .before .before .before .before .before .before .before .before .before .before .before .before .out-of-range .ensures in
+    (e .1 .1, (pre .1 .0, (pre .1 .1, e .1 .0 (c .before .before .before .before .before .if1 .left))))
 
 same-length-5 : tie.Need-same-length-5
 same-length-5 c = search needs

@@ -18,7 +18,7 @@ hold-at-requires : tie.Need-hold-at-requires
 hold-at-requires c κs =
     let pre = c .before .before .before .before .before .before .before .before .before .before .before .before .pre in
     let p = plan-of (c .before .before .before .before .before .before .before .before .before .before .before .before .args .arcs .now) (c .before .before .before .before .before .before .before .before .before .before .before .before .args .supplies .now) in
-    (pre .1 .1 .0, (pre .1 .1 .1 .0, (p, (c .before .before .before .before .before .before .before .before .before .before .before .before .args .k, (rw (c .before .before .before .before .before .before .arc-at .ensures) (own-standing {p = p} {k = c .before .before .before .before .before .before .before .before .before .before .before .before .args .k} (pre .0) (pre .1 .0) (pre .1 .1 .1 .1 .0)), pre .1 .1 .1 .1 .1)))))
+    (pre .0 .desk .lent, (pre .0 .desk .marks-fit, (p, (c .before .before .before .before .before .before .before .before .before .before .before .before .args .k, (rw (c .before .before .before .before .before .before .arc-at .ensures) (own-standing {p = p} {k = c .before .before .before .before .before .before .before .before .before .before .before .before .args .k} (pre .0 .desk .plan) (pre .1 .0) (pre .0 .ready)), pre .1 .1)))))
 
 same-length : tie.Need-same-length
 same-length c = search needs
@@ -36,7 +36,7 @@ returns : tie.Need-returns
 returns c =
     let pre = c .before .before .before .before .before .before .before .before .before .before .before .before .before .before .before .before .before .before .before .before .before .pre in
     let p = plan-of (c .before .before .before .before .before .before .before .before .before .before .before .before .before .before .before .before .before .before .before .before .before .args .arcs .now) (c .before .before .before .before .before .before .before .before .before .before .before .before .before .before .before .before .before .before .before .before .before .args .supplies .now) in
-    c .before .before .before .before .before .before .before .before .hold-at .ensures p (c .before .before .before .before .before .before .before .before .before .before .before .before .before .before .before .before .before .before .before .before .before .args .k) (rw (c .before .before .before .before .before .before .before .before .before .before .before .before .before .before .before .arc-at .ensures) (own-standing {p = p} {k = c .before .before .before .before .before .before .before .before .before .before .before .before .before .before .before .before .before .before .before .before .before .args .k} (pre .0) (pre .1 .0) (pre .1 .1 .1 .1 .0))) (pre .1 .1 .1 .1 .1)
+    c .before .before .before .before .before .before .before .before .hold-at .ensures p (c .before .before .before .before .before .before .before .before .before .before .before .before .before .before .before .before .before .before .before .before .before .args .k) (rw (c .before .before .before .before .before .before .before .before .before .before .before .before .before .before .before .arc-at .ensures) (own-standing {p = p} {k = c .before .before .before .before .before .before .before .before .before .before .before .before .before .before .before .before .before .before .before .before .before .args .k} (pre .0 .desk .plan) (pre .1 .0) (pre .0 .ready))) (pre .1 .1)
 
 pub hold-arc-spec : {M : Type 1} → statement M
 hold-arc-spec =

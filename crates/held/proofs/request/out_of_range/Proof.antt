@@ -1,20 +1,16 @@
 -- The count is tested against both ends; between them some flow has it.
 use mathlib.Core.Path.{sym, _∙_}
 use Rattle.plan.specs.Plan.{plan-of}
-use Rattle.engine.proofs.Sweeping.{lent-still, still-fits}
 use Rattle.held.proofs.Answering.{count-outside, count-possible}
 use borrow.Author.Needs.{needs}
 use Rattle.held.proofs.request.out_of_range.Statement.{statement}
 use Rattle.held.proofs.request.out_of_range.Tie as tie
 
 end-for-requires : tie.Need-end-for-requires
-end-for-requires c κs = let pre = c .before .before .before .before .before .before .before .before .before .pre in (pre .0, (pre .1 .1 .0, (pre .1 .1 .1 .0, (pre .1 .0, pre .1 .1 .1 .1))))
+end-for-requires c κs = c .before .before .before .before .before .before .before .before .before .pre
 
 end-for-requires-2 : tie.Need-end-for-requires-2
-end-for-requires-2 c κs =
-    let pre = c .before .before .before .before .before .before .before .before .before .before .before .before .before .before .before .before .before .before .before .before .before .before .pre in
-    let k = c .before .before .before .before .before .before .before .before .before .before .before .before .end-for .kept in
-    (pre .0, (lent-still (record { first-length = k .1 .1 .1 .1 .0; second-length = k .1 .1 .1 .1 .1 .0; third-length = k .1 .1 .1 .1 .1 .1 .0 }) (pre .1 .1 .0), (still-fits (k .1 .1 .1 .1 .1 .1 .1 .0) (pre .1 .1 .1 .0), (pre .1 .0, c .before .before .before .before .before .before .before .before .before .before .before .before .end-for .ensures .1))))
+end-for-requires-2 c κs = (c .before .before .before .before .before .before .before .before .before .before .before .before .end-for .ensures .1, c .before .before .before .before .before .before .before .before .before .before .before .before .before .before .before .before .before .before .before .before .before .before .pre .1)
 
 outside-requires : tie.Need-outside-requires
 outside-requires c κs = search needs
@@ -39,7 +35,7 @@ returns c =
     let is = c .outside .ensures in (
       λ e. count-outside {p = p} {k = k} (c .before .before .before .before .before .before .before .before .before .before .before .before .before .before .before .before .before .before .before .before .before .before .end-for .ensures .0) (c .before .before .before .before .before .before .before .before .before .end-for2 .ensures .0) count (sym is ∙ e),
       (
-        λ e. count-possible {p = p} {k = k} (c .before .before .before .before .before .before .before .before .before .before .before .before .before .before .before .before .before .before .before .before .before .before .end-for .ensures .0) (c .before .before .before .before .before .before .before .before .before .end-for2 .ensures .0) count (c .before .before .before .before .before .before .before .before .before .before .before .before .before .before .before .before .before .before .before .before .before .before .before .before .before .before .before .before .before .before .before .before .pre .0) (c .before .before .before .before .before .before .before .before .before .before .before .before .before .before .before .before .before .before .before .before .before .before .before .before .before .before .before .before .before .before .before .before .pre .1 .0) (sym is ∙ e),
+        λ e. count-possible {p = p} {k = k} (c .before .before .before .before .before .before .before .before .before .before .before .before .before .before .before .before .before .before .before .before .before .before .end-for .ensures .0) (c .before .before .before .before .before .before .before .before .before .end-for2 .ensures .0) count (c .before .before .before .before .before .before .before .before .before .before .before .before .before .before .before .before .before .before .before .before .before .before .before .before .before .before .before .before .before .before .before .before .pre .0 .desk .plan) (c .before .before .before .before .before .before .before .before .before .before .before .before .before .before .before .before .before .before .before .before .before .before .before .before .before .before .before .before .before .before .before .before .pre .1) (sym is ∙ e),
         c .before .before .before .before .before .before .before .before .before .end-for2 .ensures .1,
       ),
     )

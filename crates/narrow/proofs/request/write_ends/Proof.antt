@@ -1,15 +1,13 @@
 -- The loop writes one end a turn: below k the entries are the arcs' ends, and the plan stands ready.
 use Prim.Native.Nat.{_-_, _/_, _≤_}
-use mathlib.Core.Bool.{false}
 use mathlib.Core.Path.{_≡_, refl, _∙_}
 use lib.ListN.{length}
 use native.Mathlib.Omega.{arith}
-use Rattle.rooms.specs.Room.{at, seen, SameLengths}
-use Rattle.engine.proofs.Sweeping.{lent-still, still-fits}
+use Rattle.rooms.specs.Room.{SameLengths}
 use Rattle.plan.specs.Limits.{arc-entries}
 use Rattle.plan.specs.Plan.{plan-of}
 use Rattle.plan.specs.Reason.{NarrowedEnd}
-use Rattle.stand.specs.State.{Ready}
+use Rattle.stand.specs.Desk.{ReadyDesk}
 use Rattle.lists.specs.Written.{EntriesHold}
 use Rattle.lists.proofs.Entries.{entries-none, entry-holds}
 use borrow.Author.Needs.{needs}
@@ -20,7 +18,7 @@ abbrev Inv-loop : tie.InvT-loop
 Inv-loop arcs supplies upper ends₀ rooms₀ over₀ under₀ marks₀ count k₀ ends rooms over under marks k =
     (k ≤ length arcs / arc-entries) × EntriesHold 0 (λ i x. NarrowedEnd (plan-of arcs supplies) i upper x) k ends₀ ends
     × SameLengths rooms₀ over₀ under₀ rooms over under × (length marks ≡ length marks₀)
-    × Ready (plan-of arcs supplies) (seen rooms false) (at over) (at under)
+    × ReadyDesk arcs supplies rooms over under marks
 
 abbrev μ-loop : tie.MeasureT-loop
 μ-loop arcs supplies upper ends₀ rooms₀ over₀ under₀ marks₀ count k₀ ends rooms over under marks k = length arcs / arc-entries - k
@@ -31,20 +29,17 @@ loop-holds c = (
   entries-none,
   record { first-length = refl; second-length = refl; third-length = refl },
   refl,
-  c .before .before .before .before .before .before .pre .1 .1 .1 .0,
+  c .before .before .before .before .before .before .pre .0,
 )
 
 end-for-requires : tie.Need-end-for-requires Inv-loop μ-loop
-end-for-requires c κs =
-    let pre = c .before .before .before .before .before .before .before .before .before .before .before .before .pre in
-    let inv = c .before .before .before .before .before .loop .inv in
-    (pre .0, (lent-still (inv .2) (pre .1 .0), (still-fits (inv .3) (pre .1 .1 .0), (c .before .before .before .before .loop-test .taken, inv .4))))
+end-for-requires c κs = (c .before .before .before .before .before .loop .inv .4, c .before .before .before .before .loop-test .taken)
 
 mul-ends : tie.Need-mul-ends Inv-loop μ-loop
 mul-ends c = search needs
 
 slice-write-ends : tie.Need-slice-write-ends Inv-loop μ-loop
-slice-write-ends c = omega (arith, c .before .before .before .before .before .before .before .before .before .before .before .before .before .before .loop .inv .1 .same-length, c .before .before .before .before .before .before .before .before .before .before .before .before .before .before .before .before .before .before .before .before .before .pre .1 .1 .1 .1)
+slice-write-ends c = omega (arith, c .before .before .before .before .before .before .before .before .before .before .before .before .before .before .loop .inv .1 .same-length, c .before .before .before .before .before .before .before .before .before .before .before .before .before .before .before .before .before .before .before .before .before .pre .1)
 
 add-k : tie.Need-add-k Inv-loop μ-loop
 add-k c = search needs
@@ -58,7 +53,7 @@ loop-again c =
     let inv = c .before .before .before .before .before .before .before .before .before .before .before .before .before .before .loop .inv in
     let k = c .before .before .before .before .before .before .before .before .end-for .kept in (
       omega arith,
-      entry-holds (c .before .before .before .before .before .before .before .before .end-for .result) (omega (arith, inv .1 .same-length, pre .1 .1 .1 .1)) (c .before .before .before .before .before .before .before .before .end-for .ensures .0) (inv .1),
+      entry-holds (c .before .before .before .before .before .before .before .before .end-for .result) (omega (arith, inv .1 .same-length, pre .1)) (c .before .before .before .before .before .before .before .before .end-for .ensures .0) (inv .1),
       record { first-length = k .1 .1 .1 .1 .0 ∙ inv .2 .first-length; second-length = k .1 .1 .1 .1 .1 .0 ∙ inv .2 .second-length; third-length = k .1 .1 .1 .1 .1 .1 .0 ∙ inv .2 .third-length },
       k .1 .1 .1 .1 .1 .1 .1 .0 ∙ inv .3,
       c .before .before .before .before .before .before .before .before .end-for .ensures .1,

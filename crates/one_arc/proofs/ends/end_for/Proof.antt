@@ -1,5 +1,6 @@
 -- The arc's numbers are the plan's, so its end is the plan's.
 use Rattle.plan.specs.Plan.{plan-of}
+use Rattle.stand.proofs.Desks.{still-desk}
 use Rattle.one_arc.proofs.OneArc.{own-standing}
 use borrow.Author.Needs.{needs}
 use Rattle.one_arc.proofs.ends.end_for.Statement.{statement}
@@ -18,7 +19,7 @@ end-of-requires : tie.Need-end-of-requires
 end-of-requires c κs =
     let pre = c .before .before .before .before .before .before .before .before .before .before .before .before .pre in
     let p = plan-of (c .before .before .before .before .before .before .before .before .before .before .before .before .args .arcs .now) (c .before .before .before .before .before .before .before .before .before .before .before .before .args .supplies .now) in
-    (pre .1 .0, (pre .1 .1 .0, (p, (c .before .before .before .before .before .before .before .before .before .before .before .before .args .k, rw (c .before .before .before .before .before .before .arc-at .ensures) (own-standing {p = p} {k = c .before .before .before .before .before .before .before .before .before .before .before .before .args .k} (pre .0) (pre .1 .1 .1 .0) (pre .1 .1 .1 .1))))))
+    (pre .0 .desk .lent, (pre .0 .desk .marks-fit, (p, (c .before .before .before .before .before .before .before .before .before .before .before .before .args .k, rw (c .before .before .before .before .before .before .arc-at .ensures) (own-standing {p = p} {k = c .before .before .before .before .before .before .before .before .before .before .before .before .args .k} (pre .0 .desk .plan) (pre .1) (pre .0 .ready))))))
 
 same-length : tie.Need-same-length
 same-length c = search needs
@@ -36,7 +37,14 @@ returns : tie.Need-returns
 returns c =
     let pre = c .before .before .before .before .before .before .before .before .before .before .before .before .before .before .before .before .before .before .before .before .before .pre in
     let p = plan-of (c .before .before .before .before .before .before .before .before .before .before .before .before .before .before .before .before .before .before .before .before .before .args .arcs .now) (c .before .before .before .before .before .before .before .before .before .before .before .before .before .before .before .before .before .before .before .before .before .args .supplies .now) in
-    c .before .before .before .before .before .before .before .before .end-of .ensures p (c .before .before .before .before .before .before .before .before .before .before .before .before .before .before .before .before .before .before .before .before .before .args .k) (rw (c .before .before .before .before .before .before .before .before .before .before .before .before .before .before .before .arc-at .ensures) (own-standing {p = p} {k = c .before .before .before .before .before .before .before .before .before .before .before .before .before .before .before .before .before .before .before .before .before .args .k} (pre .0) (pre .1 .1 .1 .0) (pre .1 .1 .1 .1)))
+    let s = c .before .before .before .before .before .before .before .before .end-of .kept in
+    let e = c .before .before .before .before .before .before .before .before .end-of .ensures p (c .before .before .before .before .before .before .before .before .before .before .before .before .before .before .before .before .before .before .before .before .before .args .k) (rw (c .before .before .before .before .before .before .before .before .before .before .before .before .before .before .before .arc-at .ensures) (own-standing {p = p} {k = c .before .before .before .before .before .before .before .before .before .before .before .before .before .before .before .before .before .before .before .before .before .args .k} (pre .0 .desk .plan) (pre .1) (pre .0 .ready))) in (
+      e .0,
+      record {
+        desk = still-desk (record { first-length = s .0; second-length = s .1 .1 .0; third-length = s .1 .1 .1 .0 }) (s .1 .1 .1 .1 .1 .1 .1 .1 .1 .0) (pre .0 .desk);
+        ready = e .1;
+      },
+    )
 
 pub end-for-spec : {M : Type 1} → statement M
 end-for-spec =

@@ -1,6 +1,5 @@
 -- A new desk is long enough for 64 nodes and holds zeros.
-use lib.Dec.{lit≤}
-use Rattle.stand.proofs.Asking.{zeros}
+use Rattle.stand.proofs.Desks.{new-desk}
 use borrow.Author.Needs.{needs}
 use Rattle.reason.proofs.request.work_out.Statement.{statement}
 use Rattle.reason.proofs.request.work_out.Tie as tie
@@ -18,23 +17,7 @@ slice-aggregate-work-out-on-4 : tie.Need-slice-aggregate-work-out-on-4
 slice-aggregate-work-out-on-4 c = search needs
 
 work-out-on-requires : tie.Need-work-out-on-requires
-work-out-on-requires c κs =
-    let few = c .before .before .before .before .before .before .before .before .before .pre .0 .nodes-fit in (
-      c .before .before .before .before .before .before .before .before .before .pre .0,
-      (
-        c .before .before .before .before .before .before .before .before .before .pre .1 .0,
-        (
-          c .before .before .before .before .before .before .before .before .before .pre .1 .1,
-          (
-            record { nodes-fit = few; rooms-whole = lit≤ tt; over-whole = few; under-whole = few },
-            (
-              λ i. (zeros 4096 i, zeros 64 i, zeros 64 i),
-              few,
-            ),
-          ),
-        ),
-      ),
-    )
+work-out-on-requires c κs = (new-desk (c .before .before .before .before .before .before .before .before .before .pre .0), c .before .before .before .before .before .before .before .before .before .pre .1)
 
 same-length : tie.Need-same-length
 same-length c = search needs

@@ -1,12 +1,11 @@
 -- A "no" leaves at once; else the plan stands ready, and its end is explained.
 use mathlib.Core.Path.{refl}
-use Rattle.engine.proofs.Sweeping.{lent-still, still-fits}
 use borrow.Author.Needs.{needs}
 use Rattle.reason.proofs.request.work_out_on.Statement.{statement}
 use Rattle.reason.proofs.request.work_out_on.Tie as tie
 
 ask-requires : tie.Need-ask-requires
-ask-requires c κs = let pre = c .before .before .before .before .before .before .before .before .before .before .before .pre in (pre .0, (pre .1 .1 .1 .0, (pre .1 .1 .1 .1 .0, pre .1 .1 .1 .1 .1)))
+ask-requires c κs = c .before .before .before .before .before .before .before .before .before .before .before .pre .0
 
 enum-told : tie.Need-enum-told
 enum-told c = search needs
@@ -33,10 +32,7 @@ returns : tie.Need-returns
 returns c = rw (c .to .ensures, c .before .enum-told2 .given .1) ((_, c .before .before .before .before .before .before .before .before .before .before .before .ask .ensures .lacks _ (c .before .enum-told2 .given .1) .short), refl, refl)
 
 explain-requires : tie.Need-explain-requires
-explain-requires c κs =
-    let pre = c .before .before .before .before .before .before .before .before .before .before .before .before .before .before .before .before .before .before .before .before .before .before .before .before .before .before .before .before .pre in
-    let k = c .before .before .before .before .before .before .before .before .before .before .before .before .before .before .before .before .ask .kept in
-    (pre .0, (pre .1 .0, (pre .1 .1 .0, (lent-still (record { first-length = k .1 .1 .0; second-length = k .1 .1 .1 .0; third-length = k .1 .1 .1 .1 .0 }) (pre .1 .1 .1 .0), (still-fits (k .1 .1 .1 .1 .1 .0) (pre .1 .1 .1 .1 .1), c .before .before .before .before .before .before .before .before .before .before .before .before .before .before .before .before .ask .ensures .balances (c .before .before .before .before .before .before .enum-told .given .1))))))
+explain-requires c κs = (c .before .before .before .before .before .before .before .before .before .before .before .before .before .before .before .before .ask .ensures .balances (c .before .before .before .before .before .before .enum-told .given .1), c .before .before .before .before .before .before .before .before .before .before .before .before .before .before .before .before .before .before .before .before .before .before .before .before .before .before .before .before .pre .1)
 
 same-length-5 : tie.Need-same-length-5
 same-length-5 c = search needs

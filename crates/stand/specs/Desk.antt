@@ -1,0 +1,24 @@
+-- The desk that a plan is worked out on: rooms, over, under and marks that are lent, long enough for the plan that two lists hold.
+-- It is empty before the plan is asked; afterwards the plan may stand ready on it.
+use Prim.Native.Nat.{ℕ, _≤_}
+use mathlib.Core.Path.{_≡_}
+use mathlib.Core.Bool.{false}
+use mathlib.Core.List.{List}
+use lib.IntN.{ℤ}
+use lib.ListN.{length}
+use Rattle.rooms.specs.Room.{at, seen, Lent}
+use Rattle.plan.specs.Plan.{WellFormed, plan-of}
+use Rattle.stand.specs.State.{Ready}
+
+pub record PlanDesk (arcs : List ℕ) (supplies : List ℤ) (rooms over under marks : List ℕ) : Type 0 where
+  pub plan : WellFormed (plan-of arcs supplies)
+  pub lent : Lent (length supplies) rooms over under
+  pub marks-fit : length supplies ≤ length marks
+
+pub record EmptyDesk (arcs : List ℕ) (supplies : List ℤ) (rooms over under marks : List ℕ) : Type 0 where
+  pub desk : PlanDesk arcs supplies rooms over under marks
+  pub empty : (i : ℕ) → (at rooms i ≡ 0) × (at over i ≡ 0) × (at under i ≡ 0)
+
+pub record ReadyDesk (arcs : List ℕ) (supplies : List ℤ) (rooms over under marks : List ℕ) : Type 0 where
+  pub desk : PlanDesk arcs supplies rooms over under marks
+  pub ready : Ready (plan-of arcs supplies) (seen rooms false) (at over) (at under)
