@@ -40,7 +40,7 @@ fn main() {
     let run = compare_on_threads(options.seed, options.rounds);
     print!("{}", run.numbers());
     if !run.met_every_number() {
-        println!("not every number came up: {} rounds are too few", options.rounds);
+        println!("not every number and kind came up: {} rounds are too few", options.rounds);
         std::process::exit(1);
     }
     println!("compared: {}; {} requests, 0 differences", run.tally(), run.total());

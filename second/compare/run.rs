@@ -26,7 +26,7 @@ pub struct Run {
     pub random: Random,
     seed: u64,
     planting: Option<Fault>,
-    /// How many requests of each name got each number, and of which kind.
+    /// How many requests of each name got each number, and each kind of 0.
     compared: BTreeMap<(&'static str, u32, usize), u64>,
 }
 
@@ -88,6 +88,7 @@ impl Run {
             self.report(request, asked, unit, second, lent);
         }
         let kind = if second.number == 0 && !request.kinds.is_empty() { second.index as usize } else { 0 };
+        assert!(kind < request.kinds.len().max(1), "an answer of no kind");
         *self.compared.entry((request.name, second.number, kind)).or_default() += 1;
     }
 
@@ -139,14 +140,14 @@ impl Run {
         requests::ALL.iter().map(of_request).collect::<Vec<_>>().join(", ")
     }
 
-    /// How often each number came up, for each request in a line of its own.
+    /// How often each number and each kind of 0 came up, for each request in a line of its own.
     pub fn numbers(&self) -> String {
         let of_request = |request: &Request| {
             let of_number = |&number| format!("{number} x {}", self.times(request, number));
-            let of_kind = |(kind, name): (usize, &&str)| format!("{name} x {}", self.times_of_kind(request, 0, kind));
-            let numbers = request.numbers.iter().map(of_number);
-            let told: Vec<String> = numbers.chain(request.kinds.iter().enumerate().map(of_kind)).collect();
-            format!("{}, by number: {}\n", request.name, told.join(", "))
+            let of_kind = |(kind, name)| format!("; of 0, {name} x {}", self.times_of_kind(request, 0, kind));
+            let numbers: Vec<String> = request.numbers.iter().map(of_number).collect();
+            let kinds: String = request.kinds.iter().enumerate().map(of_kind).collect();
+            format!("{}, by number: {}{kinds}\n", request.name, numbers.join(", "))
         };
         requests::ALL.iter().map(of_request).collect()
     }

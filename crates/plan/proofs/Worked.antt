@@ -187,19 +187,19 @@ worked-plans = get (each? (length table) (λ i l. row? (worked i))) tt
 -- ---- what no worked plan shows
 
 -- a choice between two numbers is no third
-neither : (t : Bool) (a b n : ℕ) → (a ≡ n → ⊥) → (b ≡ n → ⊥) → cond t a b ≡ n → ⊥
-neither true a b n not-a not-b = not-a
-neither false a b n not-a not-b = not-b
+no-third : (t : Bool) (a b n : ℕ) → (a ≡ n → ⊥) → (b ≡ n → ⊥) → cond t a b ≡ n → ⊥
+no-third true a b n not-a not-b = not-a
+no-third false a b n not-a not-b = not-b
 
 -- a bound at the widest end in a sum: it is not cited, whatever the sum uses and whatever the arc's other bound is
 pub widest-low-uncited : (p : Plan) (high-used low-used : Set) (j : ℕ) → p .low j ≡ widest-low
     → mark p high-used low-used j ≡ 1 → ⊥
 widest-low-uncited p high-used low-used j low =
     simp (eq-eqb (p .low j) widest-low low, and-false)
-    (neither (high-used j && high-is-news p j) 2 0 1 (λ e. omega arith) (λ e. omega arith))
+    (no-third (high-used j && high-is-news p j) 2 0 1 (λ e. omega arith) (λ e. omega arith))
 
 pub widest-high-uncited : (p : Plan) (high-used low-used : Set) (j : ℕ) → p .high j ≡ widest-high
     → mark p high-used low-used j ≡ 2 → ⊥
 widest-high-uncited p high-used low-used j high =
     simp (eq-eqb (p .high j) widest-high high, and-false)
-    (neither (low-used j && low-is-news p j) 1 0 2 (λ e. omega arith) (λ e. omega arith))
+    (no-third (low-used j && low-is-news p j) 1 0 2 (λ e. omega arith) (λ e. omega arith))

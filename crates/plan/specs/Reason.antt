@@ -1,9 +1,11 @@
 -- Reasons: what a set allows or forces on an arc, the reason for a moved end, and the bounds that a reason cites.
-use Prim.Native.Nat.{ℕ, _<_}
+use Prim.Native.Nat.{ℕ, _≤_, _<_}
 use mathlib.Core.Path.{_≡_}
 use mathlib.Core.Bool.{Bool, true, false, cond, not, _&&_}
+use mathlib.Core.Logic.{_⊎_}
 use lib.Dec.{eqb}
 use lib.IntN.{ℤ, pos, _+ℤ_, _-ℤ_}
+use lib.Signed.{_≤ℤ_}
 use Rattle.plan.specs.Limits.{widest-low, widest-high}
 use Rattle.plan.specs.Plan.{Plan, Set}
 use Rattle.plan.specs.Flow.{total, Smallest, Largest}
@@ -25,6 +27,18 @@ allows p k S = supplies p S +ℤ pos (total p (p .high) (enters p S)) -ℤ pos (
 -- at least the supplies of S, minus the highs of the other arcs leaving S, plus the lows of arcs entering S
 unfoldable pub forces : Plan → ℕ → Set → ℤ
 forces p k S = supplies p S -ℤ pos (total p (p .high) (others k (leaves p S))) +ℤ pos (total p (p .low) (enters p S))
+
+-- x is the greater of k's own low and the greatest number that is forced
+pub record GreatestForced (p : Plan) (k x : ℕ) : Type 0 where
+  pub own : p .low k ≤ x
+  pub every : (S : Set) → Separates p k S → forces p k S ≤ℤ pos x
+  pub one : (x ≡ p .low k) ⊎ ((S : Set) × Separates p k S × (forces p k S ≡ pos x))
+
+-- x is the lesser of k's own high and the least number that is allowed
+pub record LeastAllowed (p : Plan) (k x : ℕ) : Type 0 where
+  pub own : x ≤ p .high k
+  pub every : (S : Set) → Separates p k S → pos x ≤ℤ allows p k S
+  pub one : (x ≡ p .high k) ⊎ ((S : Set) × Separates p k S × (allows p k S ≡ pos x))
 
 -- the set of a reason: its sum gives the narrowed value, and among equals it is the one contained in all the others
 pub record ReasonSet (p : Plan) (k : ℕ) (sum : Set → ℤ) (value : ℕ) (S : Set) : Type 0 where

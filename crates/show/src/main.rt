@@ -3,15 +3,22 @@
 // number and the place by which the plan is turned down. Under a plan that runs, the narrowed ranges and a
 // line for each end of each arc: that it stands, or where it moved, by which stations and limits. Then an
 // arc held at some counts. Of a counting plan: the new domains and count ranges; or the shortfall, and what
-// the flow question says of its network. It uses the six requests and `say`.
+// the flow question says of its network. Of a plan file: its length, its check, how long the payloads of its
+// block and of one past it are, and the counts that are read back. It uses the requests and `say`.
 use count::request::count;
 use count::request::count_network;
+use file::Written;
 use flow::Answer;
 use flow::question::question;
+use format::Block;
+use format::bytes::two;
 use held::request::hold;
 use narrow::request::narrow;
 use plan::Verdict;
+use reading::payload::payload;
+use reading::read;
 use reason::request::reason;
+use writing::write;
 
 // The first m counts.
 fn say_counts(counts: &[u32], m: usize) {
@@ -234,9 +241,41 @@ fn show_fourth() {
     show_network(&[0], &[0, 1], &mut [0i32; 3], &mut [0u32; 8]);
 }
 
+// The file of one block, as it was written.
+fn show_block(file: &[u8; Block::SIZE]) {
+    say::text(b", check");
+    say::number(two(file, Block::CHECK_AT) as u64);
+    say::text(b", payloads");
+    say::number(payload(file, 0).len() as u64);
+    say::number(payload(file, 1).len() as u64);
+    match read(file, &mut [0i32; 1], &mut []) {
+        file::Answer::Read(nodes, arcs) => {
+            say::text(b", read");
+            say::number(nodes as u64);
+            say::number(arcs as u64);
+        }
+        file::Answer::Refused(number, index) => say_refused(number, index),
+    }
+}
+
+// P13: one station with nothing to send, as a file.
+fn show_file() {
+    let mut file = [0u8; Block::SIZE];
+    say::text(b"P13");
+    match write(&[], &[0], &mut file) {
+        Written::Length(length) => {
+            say::number(length as u64);
+            show_block(&file);
+        }
+        Written::Refused(number, index) => say_refused(number, index),
+    }
+    say::text(b"\n");
+}
+
 fn main() {
     show_first();
     show_second();
     show_third();
     show_fourth();
+    show_file();
 }

@@ -10,15 +10,18 @@ use Rattle.rooms.specs.Room.{at, seen, Lent}
 use Rattle.plan.specs.Plan.{WellFormed, plan-of}
 use Rattle.stand.specs.State.{Ready}
 
+-- long enough for a well-formed plan
 pub record PlanDesk (arcs : List ℕ) (supplies : List ℤ) (rooms over under marks : List ℕ) : Type 0 where
   pub plan : WellFormed (plan-of arcs supplies)
   pub lent : Lent (length supplies) rooms over under
   pub marks-fit : length supplies ≤ length marks
 
+-- rooms, over and under hold zeros; the marks may hold anything
 pub record EmptyDesk (arcs : List ℕ) (supplies : List ℤ) (rooms over under marks : List ℕ) : Type 0 where
   pub desk : PlanDesk arcs supplies rooms over under marks
   pub empty : (i : ℕ) → (at rooms i ≡ 0) × (at over i ≡ 0) × (at under i ≡ 0)
 
+-- the plan stands ready on it
 pub record ReadyDesk (arcs : List ℕ) (supplies : List ℤ) (rooms over under marks : List ℕ) : Type 0 where
   pub desk : PlanDesk arcs supplies rooms over under marks
   pub ready : Ready (plan-of arcs supplies) (seen rooms false) (at over) (at under)
