@@ -5,13 +5,23 @@ use mathlib.Core.Path.{_≡_}
 use mathlib.Core.Bool.{Bool, true, false, not}
 use mathlib.Core.List.{List}
 use Rattle.numbers.specs.Sums.{sum, sum-in, only}
-use Rattle.rooms.specs.Room.{at, seen, crossing}
+use Rattle.rooms.specs.Room.{at, seen, crossing, Small, Lent}
 use Rattle.reach.specs.Reach.{marked}
 
 -- nothing is over and nothing is under
 pub record Balanced (n : ℕ) (over under : ℕ → ℕ) : Type 0 where
   pub none-over : (v : ℕ) → v < n → over v ≡ 0
   pub none-under : (v : ℕ) → v < n → under v ≡ 0
+
+-- rooms, over and under that are lent for n nodes, seen one way, in balance
+pub record AtRest (n : ℕ) (back : Bool) (rooms over under : List ℕ) : Type 0 where
+  pub lent : Lent n rooms over under
+  pub small : Small n (seen rooms back) (at under)
+  pub balanced : Balanced n (at over) (at under)
+
+-- two nodes that are not one
+abbrev pub TwoNodes : (n a b : ℕ) → Type 0
+TwoNodes n a b = (a < n) × (b < n) × (b ≡ a → ⊥)
 
 -- no set is short: what is over in it can leave it or lacks in it; and in all as much is over as under
 pub record NoneShort (n : ℕ) (room : ℕ → ℕ → ℕ) (over under : ℕ → ℕ) : Type 0 where

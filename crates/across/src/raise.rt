@@ -10,13 +10,12 @@ use rooms::place;
 use rooms::push;
 use rooms::room_of;
 use rooms::take;
-ghost use mathlib.Core.Path.{_≡_};
 ghost use mathlib.Core.Bool.{false};
 ghost use Prim.Native.Nat.{_+_, _*_, _^_, _≤_, _<_};
 ghost use lib.ListN.{length};
 ghost use Rattle.rooms.specs.Room.{side, at, seen, Small, Kept, Lent};
 ghost use Rattle.rooms.specs.Move.{Taken};
-ghost use Rattle.across.specs.Raise.{Balanced, NoneShort, Shifted, Stopped, Raised, Measured, MadeRoom, HeldOut};
+ghost use Rattle.across.specs.Raise.{Balanced, AtRest, TwoNodes, NoneShort, Shifted, Stopped, Raised, Measured, MadeRoom, HeldOut};
 
 // Moves all that is over to where it lacks, where no set is short.
 pub fn rebalance(
@@ -49,7 +48,7 @@ fn shift(
     d: u32,
 )
     requires lent { ⌜ Lent n (now rooms) (now over) (now under) ⌝ }
-    requires nodes { ⌜ (a < n) × (b < n) × (b ≡ a → ⊥) ⌝ }
+    requires nodes { ⌜ TwoNodes n a b ⌝ }
     requires fits { ⌜ (d ≤ seen (now rooms) back b a) × (seen (now rooms) back a b + d < 2 ^ 32) × (at (now over) a + d < 2 ^ 32) × (at (now under) b + d < 2 ^ 32) ⌝ }
     ensures { λ r. ⌜ Shifted n (seen (now (rooms .entry)) back) (at (now (over .entry))) (at (now (under .entry))) (seen (now (rooms .exit)) back) (at (now (over .exit))) (at (now (under .exit))) a b d ⌝ }
 {
@@ -70,11 +69,9 @@ fn go_round(
     d: u32,
     marks: &mut [u8],
 )
-    requires lent { ⌜ Lent n (now rooms) (now over) (now under) ⌝ }
-    requires small { ⌜ Small n (seen (now rooms) back) (at (now under)) ⌝ }
+    requires rest { ⌜ AtRest n back (now rooms) (now over) (now under) ⌝ }
     requires marks { ⌜ n ≤ length (now marks) ⌝ }
-    requires balanced { ⌜ Balanced n (at (now over)) (at (now under)) ⌝ }
-    requires nodes { ⌜ (a < n) × (b < n) × (b ≡ a → ⊥) ⌝ }
+    requires nodes { ⌜ TwoNodes n a b ⌝ }
     requires fits { ⌜ d ≤ seen (now rooms) back b a ⌝ }
     ensures { λ r. ⌜ Stopped n (seen (now (rooms .entry)) back) (seen (now (rooms .exit)) back) (at (now (over .exit))) (at (now (under .exit))) a b d (now (marks .exit)) ⌝ }
 {
@@ -95,11 +92,9 @@ pub fn raise(
     width: u32,
     marks: &mut [u8],
 ) -> u32
-    requires lent { ⌜ Lent n (now rooms) (now over) (now under) ⌝ }
-    requires small { ⌜ Small n (seen (now rooms) back) (at (now under)) ⌝ }
+    requires rest { ⌜ AtRest n back (now rooms) (now over) (now under) ⌝ }
     requires marks { ⌜ n ≤ length (now marks) ⌝ }
-    requires balanced { ⌜ Balanced n (at (now over)) (at (now under)) ⌝ }
-    requires nodes { ⌜ (a < n) × (b < n) × (b ≡ a → ⊥) ⌝ }
+    requires nodes { ⌜ TwoNodes n a b ⌝ }
     requires wide { ⌜ width ≤ seen (now rooms) back a b + seen (now rooms) back b a ⌝ }
     ensures { λ r. ⌜ Raised n (seen (now (rooms .entry)) back) (seen (now (rooms .exit)) back) (at (now (over .exit))) (at (now (under .exit))) a b width r (now (marks .exit)) ⌝ }
 {
@@ -124,7 +119,7 @@ fn bring_back(
 )
     requires lent { ⌜ Lent n (now rooms) (now over) (now under) ⌝ }
     requires small { ⌜ Small n (seen (now rooms) back) (at (now under)) ⌝ }
-    requires nodes { ⌜ (a < n) × (b < n) × (b ≡ a → ⊥) ⌝ }
+    requires nodes { ⌜ TwoNodes n a b ⌝ }
     ensures { λ r. ⌜ Kept n (seen (now (rooms .entry)) back) (at (now (over .entry))) (at (now (under .entry))) (seen (now (rooms .exit)) back) (at (now (over .exit))) (at (now (under .exit))) ⌝ }
 {
     move_on(rooms, back, under, a, b);
@@ -143,11 +138,9 @@ pub fn measure(
     width: u32,
     marks: &mut [u8],
 ) -> u32
-    requires lent { ⌜ Lent n (now rooms) (now over) (now under) ⌝ }
-    requires small { ⌜ Small n (seen (now rooms) back) (at (now under)) ⌝ }
+    requires rest { ⌜ AtRest n back (now rooms) (now over) (now under) ⌝ }
     requires marks { ⌜ n ≤ length (now marks) ⌝ }
-    requires balanced { ⌜ Balanced n (at (now over)) (at (now under)) ⌝ }
-    requires nodes { ⌜ (a < n) × (b < n) × (b ≡ a → ⊥) ⌝ }
+    requires nodes { ⌜ TwoNodes n a b ⌝ }
     requires wide { ⌜ width ≤ seen (now rooms) back a b + seen (now rooms) back b a ⌝ }
     ensures measured { λ r. ⌜ Measured n back (now (rooms .entry)) (now (rooms .exit)) a b width r ⌝ }
     ensures balanced { λ r. ⌜ Balanced n (at (now (over .exit))) (at (now (under .exit))) ⌝ }
@@ -170,10 +163,8 @@ fn make_room(
     out: u32,
     home: u32,
 )
-    requires lent { ⌜ Lent n (now rooms) (now over) (now under) ⌝ }
-    requires small { ⌜ Small n (seen (now rooms) false) (at (now under)) ⌝ }
-    requires balanced { ⌜ Balanced n (at (now over)) (at (now under)) ⌝ }
-    requires nodes { ⌜ (a < n) × (b < n) × (b ≡ a → ⊥) ⌝ }
+    requires rest { ⌜ AtRest n false (now rooms) (now over) (now under) ⌝ }
+    requires nodes { ⌜ TwoNodes n a b ⌝ }
     requires fits { ⌜ out + home ≤ seen (now rooms) false a b + seen (now rooms) false b a ⌝ }
     ensures { λ r. ⌜ MadeRoom n (seen (now (rooms .entry)) false) (at (now (over .entry))) (at (now (under .entry))) (seen (now (rooms .exit)) false) (at (now (over .exit))) (at (now (under .exit))) a b out home ⌝ }
 {
@@ -209,10 +200,8 @@ pub fn hold(
     out: u32,
     home: u32,
 )
-    requires lent { ⌜ Lent n (now rooms) (now over) (now under) ⌝ }
-    requires small { ⌜ Small n (seen (now rooms) false) (at (now under)) ⌝ }
-    requires balanced { ⌜ Balanced n (at (now over)) (at (now under)) ⌝ }
-    requires nodes { ⌜ (a < n) × (b < n) × (b ≡ a → ⊥) ⌝ }
+    requires rest { ⌜ AtRest n false (now rooms) (now over) (now under) ⌝ }
+    requires nodes { ⌜ TwoNodes n a b ⌝ }
     requires fits { ⌜ out + home ≤ seen (now rooms) false a b + seen (now rooms) false b a ⌝ }
     ensures { λ r. ⌜ HeldOut n (seen (now (rooms .entry)) false) (at (now (over .entry))) (at (now (under .entry))) (seen (now (rooms .exit)) false) (at (now (over .exit))) (at (now (under .exit))) a b out home ⌝ }
 {

@@ -11,15 +11,15 @@ shift-requires : tie.Need-shift-requires
 shift-requires c κs =
     let pre = c .before .before .before .before .before .before .before .pre in
     let a = c .before .before .before .before .before .before .before .args in
-    let nodes = pre .1 .1 .1 .1 .0 in (
-      pre .0,
+    let nodes = pre .1 .1 .0 in (
+      pre .0 .lent,
       (
         nodes,
         (
-          pre .1 .1 .1 .1 .1,
-          omega (arith, pre .1 .0 .pairs-small (a .a) (a .b) (nodes .0) (nodes .1) (λ e. nodes .2 (sym e)), pre .1 .1 .1 .1 .1),
-          omega (arith, pre .1 .1 .1 .0 .none-over (a .a) (nodes .0)),
-          omega (arith, pre .1 .1 .1 .0 .none-under (a .b) (nodes .1)),
+          pre .1 .1 .1,
+          omega (arith, pre .0 .small .pairs-small (a .a) (a .b) (nodes .0) (nodes .1) (λ e. nodes .2 (sym e)), pre .1 .1 .1),
+          omega (arith, pre .0 .balanced .none-over (a .a) (nodes .0)),
+          omega (arith, pre .0 .balanced .none-under (a .b) (nodes .1)),
         ),
       ),
     )
@@ -27,11 +27,11 @@ shift-requires c κs =
 settle-requires : tie.Need-settle-requires
 settle-requires c κs =
     let pre = c .before .before .before .before .before .before .before .before .before .before .before .before .before .before .before .before .before .before .pre in
-    let nodes = pre .1 .1 .1 .1 .0 in (
-      lent-still (record { first-length = c .before .before .before .before .before .before .before .before .before .before .shift .kept .0; second-length = c .before .before .before .before .before .before .before .before .before .before .shift .kept .1 .1 .0; third-length = c .before .before .before .before .before .before .before .before .before .before .shift .kept .1 .1 .1 .0 }) (pre .0),
+    let nodes = pre .1 .1 .0 in (
+      lent-still (record { first-length = c .before .before .before .before .before .before .before .before .before .before .shift .kept .0; second-length = c .before .before .before .before .before .before .before .before .before .before .shift .kept .1 .1 .0; third-length = c .before .before .before .before .before .before .before .before .before .before .shift .kept .1 .1 .1 .0 }) (pre .0 .lent),
       (
-        shifted-small (nodes .0) (nodes .1) (pre .1 .1 .1 .0) (c .before .before .before .before .before .before .before .before .before .before .shift .ensures) (pre .1 .0) (pre .1 .1 .1 .1 .1) (nodes .2),
-        pre .1 .1 .0,
+        shifted-small (nodes .0) (nodes .1) (pre .0 .balanced) (c .before .before .before .before .before .before .before .before .before .before .shift .ensures) (pre .0 .small) (pre .1 .1 .1) (nodes .2),
+        pre .1 .0,
       ),
     )
 
@@ -50,8 +50,8 @@ same-length-4 c = search needs
 returns : tie.Need-returns
 returns c =
     let pre = c .before .before .before .before .before .before .before .before .before .before .before .before .before .before .before .before .before .before .before .before .before .before .before .before .before .before .before .pre in
-    let nodes = pre .1 .1 .1 .1 .0 in
-    stopped (nodes .0) (nodes .1) (pre .1 .1 .1 .0) (c .before .before .before .before .before .before .before .before .before .before .before .before .before .before .before .before .before .before .before .shift .ensures) (c .before .before .before .before .before .before .before .before .settle .ensures)
+    let nodes = pre .1 .1 .0 in
+    stopped (nodes .0) (nodes .1) (pre .0 .balanced) (c .before .before .before .before .before .before .before .before .before .before .before .before .before .before .before .before .before .before .before .shift .ensures) (c .before .before .before .before .before .before .before .before .settle .ensures)
 
 pub go-round-spec : {M : Type 1} → statement M
 go-round-spec =

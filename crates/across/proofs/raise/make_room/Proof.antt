@@ -16,16 +16,16 @@ shift-requires : tie.Need-shift-requires
 shift-requires c κs =
     let pre = c .before .before .before .before .before .before .before .before .before .pre in
     let a = c .before .before .before .before .before .before .before .before .before .args in
-    let nodes = pre .1 .1 .1 .0 in
-    let small = pre .1 .0 .pairs-small (a .a) (a .b) (nodes .0) (nodes .1) (λ e. nodes .2 (sym e)) in (
-      pre .0,
+    let nodes = pre .1 .0 in
+    let small = pre .0 .small .pairs-small (a .a) (a .b) (nodes .0) (nodes .1) (λ e. nodes .2 (sym e)) in (
+      pre .0 .lent,
       (
         nodes,
         (
-          omega (arith, pre .1 .1 .1 .1, c .before .before .before .before .room-of .ensures, c .before .before .before .if1 .taken),
-          omega (arith, pre .1 .1 .1 .1, small, c .before .before .before .before .room-of .ensures, c .before .before .before .if1 .taken),
-          omega (arith, pre .1 .1 .0 .none-over (a .a) (nodes .0), pre .1 .1 .1 .1, small, c .before .before .before .before .room-of .ensures, c .before .before .before .if1 .taken),
-          omega (arith, pre .1 .1 .0 .none-under (a .b) (nodes .1), pre .1 .1 .1 .1, small, c .before .before .before .before .room-of .ensures, c .before .before .before .if1 .taken),
+          omega (arith, pre .1 .1, c .before .before .before .before .room-of .ensures, c .before .before .before .if1 .taken),
+          omega (arith, pre .1 .1, small, c .before .before .before .before .room-of .ensures, c .before .before .before .if1 .taken),
+          omega (arith, pre .0 .balanced .none-over (a .a) (nodes .0), pre .1 .1, small, c .before .before .before .before .room-of .ensures, c .before .before .before .if1 .taken),
+          omega (arith, pre .0 .balanced .none-under (a .b) (nodes .1), pre .1 .1, small, c .before .before .before .before .room-of .ensures, c .before .before .before .if1 .taken),
         ),
       ),
     )
@@ -40,7 +40,7 @@ same-length-3 : tie.Need-same-length-3
 same-length-3 c = search needs
 
 returns : tie.Need-returns
-returns c = shifted-out (omega (arith, c .before .before .before .before .before .before .before .before .before .before .before .room-of .ensures, c .before .before .before .before .before .before .before .before .before .before .if1 .taken)) (c .before .before .before .before .before .before .before .before .before .before .before .before .before .before .before .before .pre .1 .1 .1 .1) (c .before .before .before .before .before .before .shift .ensures)
+returns c = shifted-out (omega (arith, c .before .before .before .before .before .before .before .before .before .before .before .room-of .ensures, c .before .before .before .before .before .before .before .before .before .before .if1 .taken)) (c .before .before .before .before .before .before .before .before .before .before .before .before .before .before .before .before .pre .1 .1) (c .before .before .before .before .before .before .shift .ensures)
 
 room-of-requires-2 : tie.Need-room-of-requires-2
 room-of-requires-2 c κs = search needs
@@ -52,16 +52,16 @@ shift-requires-2 : tie.Need-shift-requires-2
 shift-requires-2 c κs =
     let pre = c .before .before .before .before .before .before .before .before .before .before .before .before .pre in
     let a = c .before .before .before .before .before .before .before .before .before .before .before .before .args in
-    let nodes = pre .1 .1 .1 .0 in
-    let small = pre .1 .0 .pairs-small (a .a) (a .b) (nodes .0) (nodes .1) (λ e. nodes .2 (sym e)) in (
-      pre .0,
+    let nodes = pre .1 .0 in
+    let small = pre .0 .small .pairs-small (a .a) (a .b) (nodes .0) (nodes .1) (λ e. nodes .2 (sym e)) in (
+      pre .0 .lent,
       (
         (nodes .1, nodes .0, λ e. nodes .2 (sym e)),
         (
-          omega (arith, pre .1 .1 .1 .1, c .before .before .before .before .room-of2 .ensures, c .before .before .before .if2 .taken),
-          omega (arith, pre .1 .1 .1 .1, small, c .before .before .before .before .room-of2 .ensures, c .before .before .before .if2 .taken),
-          omega (arith, pre .1 .1 .0 .none-over (a .b) (nodes .1), pre .1 .1 .1 .1, small, c .before .before .before .before .room-of2 .ensures, c .before .before .before .if2 .taken),
-          omega (arith, pre .1 .1 .0 .none-under (a .a) (nodes .0), pre .1 .1 .1 .1, small, c .before .before .before .before .room-of2 .ensures, c .before .before .before .if2 .taken),
+          omega (arith, pre .1 .1, c .before .before .before .before .room-of2 .ensures, c .before .before .before .if2 .taken),
+          omega (arith, pre .1 .1, small, c .before .before .before .before .room-of2 .ensures, c .before .before .before .if2 .taken),
+          omega (arith, pre .0 .balanced .none-over (a .b) (nodes .1), pre .1 .1, small, c .before .before .before .before .room-of2 .ensures, c .before .before .before .if2 .taken),
+          omega (arith, pre .0 .balanced .none-under (a .a) (nodes .0), pre .1 .1, small, c .before .before .before .before .room-of2 .ensures, c .before .before .before .if2 .taken),
         ),
       ),
     )
@@ -76,7 +76,7 @@ same-length-6 : tie.Need-same-length-6
 same-length-6 c = search needs
 
 returns-2 : tie.Need-returns-2
-returns-2 c = shifted-home (omega (arith, c .before .before .before .before .before .before .before .before .before .before .before .room-of2 .ensures, c .before .before .before .before .before .before .before .before .before .before .if2 .taken)) (c .before .before .before .before .before .before .before .before .before .before .before .before .before .before .before .before .before .before .before .pre .1 .1 .1 .1) (c .before .before .before .before .before .before .shift2 .ensures)
+returns-2 c = shifted-home (omega (arith, c .before .before .before .before .before .before .before .before .before .before .before .room-of2 .ensures, c .before .before .before .before .before .before .before .before .before .before .if2 .taken)) (c .before .before .before .before .before .before .before .before .before .before .before .before .before .before .before .before .before .before .before .pre .1 .1) (c .before .before .before .before .before .before .shift2 .ensures)
 
 same-length-7 : tie.Need-same-length-7
 same-length-7 c = search needs

@@ -13,9 +13,9 @@ bring-back-requires : tie.Need-bring-back-requires
 bring-back-requires c κs =
     let pre = c .before .before .before .before .before .before .before .before .before .before .before .before .before .before .before .before .before .before .before .before .pre in
     let k = c .before .before .before .before .before .before .before .before .before .before .before .raise .kept in
-    let nodes = pre .1 .1 .1 .1 .0 in (
-      lent-still (record { first-length = k .0; second-length = k .1 .1 .0; third-length = k .1 .1 .1 .0 }) (pre .0),
-      (raised-small (c .before .before .before .before .before .before .before .before .before .before .before .raise .ensures) (pre .1 .0) (pre .1 .1 .1 .1 .1) (nodes .0) (nodes .1) (nodes .2), nodes),
+    let nodes = pre .1 .1 .0 in (
+      lent-still (record { first-length = k .0; second-length = k .1 .1 .0; third-length = k .1 .1 .1 .0 }) (pre .0 .lent),
+      (raised-small (c .before .before .before .before .before .before .before .before .before .before .before .raise .ensures) (pre .0 .small) (pre .1 .1 .1) (nodes .0) (nodes .1) (nodes .2), nodes),
     )
 
 rebalance-requires : tie.Need-rebalance-requires
@@ -24,12 +24,12 @@ rebalance-requires c κs =
     let k = c .before .before .before .before .before .before .before .before .before .before .before .before .before .before .before .before .before .before .before .before .before .before .raise .kept in
     let k′ = c .before .before .before .before .before .before .before .before .before .before .bring-back .kept in
     let kept = c .before .before .before .before .before .before .before .before .before .before .bring-back .ensures in
-    let nodes = pre .1 .1 .1 .1 .0 in (
-      lent-still (record { first-length = k′ .0 ∙ k .0; second-length = k′ .1 .1 .0 ∙ k .1 .1 .0; third-length = k′ .1 .1 .1 .0 ∙ k .1 .1 .1 .0 }) (pre .0),
+    let nodes = pre .1 .1 .0 in (
+      lent-still (record { first-length = k′ .0 ∙ k .0; second-length = k′ .1 .1 .0 ∙ k .1 .1 .0; third-length = k′ .1 .1 .1 .0 ∙ k .1 .1 .1 .0 }) (pre .0 .lent),
       (
-        kept-small kept (raised-small (c .before .before .before .before .before .before .before .before .before .before .before .before .before .before .before .before .before .before .before .before .before .before .raise .ensures) (pre .1 .0) (pre .1 .1 .1 .1 .1) (nodes .0) (nodes .1) (nodes .2)),
+        kept-small kept (raised-small (c .before .before .before .before .before .before .before .before .before .before .before .before .before .before .before .before .before .before .before .before .before .before .raise .ensures) (pre .0 .small) (pre .1 .1 .1) (nodes .0) (nodes .1) (nodes .2)),
         (
-          still-fits (k .1 .1 .1 .1 .1 .1 .1 .1 .0) (pre .1 .1 .0),
+          still-fits (k .1 .1 .1 .1 .1 .1 .1 .1 .0) (pre .1 .0),
           kept-covered (raised-covered (c .before .before .before .before .before .before .before .before .before .before .before .before .before .before .before .before .before .before .before .before .before .before .raise .ensures)) kept,
         ),
       ),

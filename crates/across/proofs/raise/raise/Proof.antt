@@ -14,7 +14,7 @@ same-length c = search needs
 returns : tie.Need-returns
 returns c =
     let pre = c .before .before .before .before .before .before .before .pre in
-    raised-at-once (pre .1 .1 .1 .1 .0 .0) (pre .1 .1 .1 .1 .0 .1) (pre .1 .1 .1 .0) (omega (arith, c .if1 .taken, c .before .room-of .ensures))
+    raised-at-once (pre .1 .1 .0 .0) (pre .1 .1 .0 .1) (pre .0 .balanced) (omega (arith, c .if1 .taken, c .before .room-of .ensures))
 
 sub-go-round : tie.Need-sub-go-round
 sub-go-round c = search needs
@@ -22,18 +22,18 @@ sub-go-round c = search needs
 go-round-requires : tie.Need-go-round-requires
 go-round-requires c κs =
     let pre = c .before .before .before .before .before .before .before .before .before .before .before .pre in
-    (pre .0, (pre .1 .0, (pre .1 .1 .0, (pre .1 .1 .1 .0, (pre .1 .1 .1 .1 .0, omega (arith, pre .1 .1 .1 .1 .1, c .before .before .before .before .before .room-of .ensures, c .before .before .before .before .if1 .left))))))
+    (pre .0, (pre .1 .0, (pre .1 .1 .0, omega (arith, pre .1 .1 .1, c .before .before .before .before .before .room-of .ensures, c .before .before .before .before .if1 .left))))
 
 room-of-requires-2 : tie.Need-room-of-requires-2
 room-of-requires-2 c κs =
     let pre = c .before .before .before .before .before .before .before .before .before .before .before .before .before .before .before .before .before .before .before .before .before .pre in
-    (omega (arith, c .before .before .before .before .before .before .before .before .before .go-round .kept .0, pre .0 .rooms-whole), omega (arith, pre .1 .1 .1 .1 .0 .0, pre .0 .nodes-fit), omega (arith, pre .1 .1 .1 .1 .0 .1, pre .0 .nodes-fit))
+    (omega (arith, c .before .before .before .before .before .before .before .before .before .go-round .kept .0, pre .0 .lent .rooms-whole), omega (arith, pre .1 .1 .0 .0, pre .0 .lent .nodes-fit), omega (arith, pre .1 .1 .0 .1, pre .0 .lent .nodes-fit))
 
 mul-lesser : tie.Need-mul-lesser
-mul-lesser c = record { fits = omega (arith, c .before .before .before .before .before .before .before .before .before .before .before .before .before .before .before .before .before .before .before .before .before .before .pre .1 .1 .1 .1 .0 .0, c .before .before .before .before .before .before .before .before .before .before .before .before .before .before .before .before .before .before .before .before .before .before .pre .0 .nodes-fit) }
+mul-lesser c = record { fits = omega (arith, c .before .before .before .before .before .before .before .before .before .before .before .before .before .before .before .before .before .before .before .before .before .before .pre .1 .1 .0 .0, c .before .before .before .before .before .before .before .before .before .before .before .before .before .before .before .before .before .before .before .before .before .before .pre .0 .lent .nodes-fit) }
 
 slice-read-lesser : tie.Need-slice-read-lesser
-slice-read-lesser c = omega (arith, c .before .before .before .before .before .before .before .before .before .before .before .before .before .before .before .before .before .before .before .before .before .before .before .pre .1 .1 .1 .1 .0 .0, c .before .before .before .before .before .before .before .before .before .before .before .before .before .before .before .before .before .before .before .before .before .before .before .pre .0 .over-whole, c .before .before .before .before .before .before .before .before .before .before .before .go-round .kept .1 .1 .0)
+slice-read-lesser c = omega (arith, c .before .before .before .before .before .before .before .before .before .before .before .before .before .before .before .before .before .before .before .before .before .before .before .pre .1 .1 .0 .0, c .before .before .before .before .before .before .before .before .before .before .before .before .before .before .before .before .before .before .before .before .before .before .before .pre .0 .lent .over-whole, c .before .before .before .before .before .before .before .before .before .before .before .go-round .kept .1 .1 .0)
 
 sub-lesser : tie.Need-sub-lesser
 sub-lesser c = omega (arith, c .before .before .before .before .before .before .before .before .before .before .before .go-round .ensures .rest-fits, c .before .room-of2 .ensures)

@@ -21,7 +21,7 @@ measure-requires c κs =
     let ne : c .before .before .before .before .before .before .before .before .before .args .b ≡ c .before .before .before .before .before .before .before .before .before .args .a → ⊥ = λ e. c .before .before .before .before .if1 .left (sym e) in
     let rooms = c .before .before .before .before .before .before .before .before .before .args .rooms .now in
     let upper = c .before .before .before .before .before .before .before .before .before .args .upper in
-    (pre .0, (facing-small rooms st upper, (pre .1 .0, (standing-balanced st, ((standing-from st, standing-to st, ne), facing-wide rooms st upper ne)))))
+    (record { lent = pre .0; small = facing-small rooms st upper; balanced = standing-balanced st }, (pre .1 .0, ((standing-from st, standing-to st, ne), facing-wide rooms st upper ne)))
 
 end-at-requires : tie.Need-end-at-requires
 end-at-requires c κs = (standing-range (c .before .before .before .before .before .before .before .before .before .before .before .before .before .before .before .before .before .before .pre .1 .1 .1 .1), c .before .before .before .before .before .before .before .before .measure .ensures .0 .measure .fits)

@@ -21,7 +21,7 @@ hold-requires c κs =
     let st = pre .1 .1 .1 .1 .0 in
     let possible = pre .1 .1 .1 .1 .1 in
     let ne : c .before .before .before .before .before .before .before .before .args .b ≡ c .before .before .before .before .before .before .before .before .args .a → ⊥ = λ e. c .before .before .before .if1 .left (sym e) in
-    (pre .0, (standing-small st, (standing-balanced st, ((standing-from st, standing-to st, ne), standing-shares st possible ne))))
+    (record { lent = pre .0; small = standing-small st; balanced = standing-balanced st }, ((standing-from st, standing-to st, ne), standing-shares st possible ne))
 
 rebalance-requires : tie.Need-rebalance-requires
 rebalance-requires c κs =

@@ -32,7 +32,7 @@ raise-requires c κs =
     let rooms = c .before .before .before .before .before .before .before .before .before .before .before .before .before .before .args .rooms .now in
     let upper = c .before .before .before .before .before .before .before .before .before .before .before .before .before .before .args .upper in
     let ne : p .to (c .before .before .before .before .before .before .before .before .before .before .before .before .before .before .args .k) ≡ p .from (c .before .before .before .before .before .before .before .before .before .before .before .before .before .before .args .k) → ⊥ = λ e. c .before .before .before .before .if1 .left (rw (c .before .before .before .before .before .before .before .before .arc-at .ensures) (sym e)) in
-    rw (c .before .before .before .before .before .before .before .before .arc-at .ensures) (pre .0 .desk .lent, (facing-small rooms st upper, (pre .0 .desk .marks-fit, (standing-balanced st, ((standing-from st, standing-to st, ne), facing-wide rooms st upper ne)))))
+    rw (c .before .before .before .before .before .before .before .before .arc-at .ensures) (record { lent = pre .0 .desk .lent; small = facing-small rooms st upper; balanced = standing-balanced st }, (pre .0 .desk .marks-fit, ((standing-from st, standing-to st, ne), facing-wide rooms st upper ne)))
 
 same-length : tie.Need-same-length
 same-length c = search needs
