@@ -33,7 +33,7 @@ use denote.Plain.{UInt, uint-makes, uint-lawful}
 use denote.Builtin.{u32, i32, usize, ArrayOf, SliceRefOf, SliceRefMutOf}
 use denote.Ref.{RefT, now}
 use denote.Slice.{sliceTy, sliceVal, slice-vals, MutSlice, ShrSlice, Room, finally, mut-slice-tells, shr-slice-tells, shr-slice-copy}
-use denote.Signature.{Signature, plain}
+use denote.Signature.{plain}
 use denote.Steps.{owned, peeks, heard, nothing}
 use denote.Triple.Entry.{onEntry}
 use denote.Triple.Spec.{Meets, tripleOf}

@@ -1,6 +1,6 @@
 -- What is taken apart is the flat list of the arcs: entry by entry, number m of arc k stands at place k * 4 + m of both.
 use Prim.Native.Nat.{ℕ, zero, suc, _+_, _*_, _/_, _%_, _≤_, _<_}
-use mathlib.Core.Path.{_≡_, refl, ap, sym, subst, _∙_}
+use mathlib.Core.Path.{_≡_, refl, sym, subst, _∙_}
 use mathlib.Core.List.{List, [], _∷_}
 use mathlib.Core.Logic.{⊎-elim}
 use native.Mathlib.Nat.{mod-lt, div-add-mod', div-lt-iff-lt-mul, eq-or-lt-of-le, le-of-suc-le-suc}
@@ -8,7 +8,7 @@ use native.Mathlib.Omega.{arith}
 use lib.ListN.{length, getD, set, take, length-set}
 use lib.Seq.{getD-set-same, getD-set-other, getD-take, ext-getD, length-take-le}
 use Rattle.plan.specs.Limits.{most-arcs}
-use Rattle.arcs.specs.Taken.{flattened, no-arc, placed, room, taken-apart}
+use Rattle.arcs.specs.Taken.{flattened, no-arc, placed, taken-apart}
 use Rattle.arcs.specs.declared.Arc.{Arc}
 use Rattle.arcs.proofs.Taking.{taken-length}
 

@@ -1,5 +1,5 @@
-// An end of an arc's narrowed range, and an arc held at a count: a page each over `across`. The state is
-// a plan's that has a flow, in balance, before and after. Internal.
+// An end of an arc's narrowed range, and an arc held at a count, told by the arc's own numbers. A plan that has a
+// flow stands in the rooms, in balance, before and after. Internal.
 use across::raise::hold;
 use across::raise::measure;
 use across::raise::rebalance;

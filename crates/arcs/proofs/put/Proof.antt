@@ -2,7 +2,6 @@
 use mathlib.Core.Path.{refl}
 use lib.ListN.{length-set}
 use Rattle.arcs.specs.Taken.{placed}
-use native.Mathlib.Omega.{arith}
 use borrow.Author.Needs.{needs}
 use Rattle.arcs.proofs.put.Statement.{statement}
 use Rattle.arcs.proofs.put.Tie as tie
