@@ -58,6 +58,7 @@ fn compare_on_threads(seed: u64, rounds: usize) -> Run {
     })
     .expect("there is a thread");
     pass::worked::all(&mut run);
+    pass::stations::all(&mut run);
     run
 }
 

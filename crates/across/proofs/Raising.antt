@@ -4,7 +4,6 @@
 use Prim.Native.Nat.{ℕ, _+_, _-_, _≤_, _<_}
 use mathlib.Core.Path.{_≡_, refl, sym, ap, _∙_}
 use mathlib.Core.Bool.{Bool, true, false, not, false≢true, true≢false, Bool·not-not}
-use mathlib.Core.List.{List}
 use mathlib.Core.Logic.{by-cases}
 use native.Mathlib.Omega.{arith}
 use native.Mathlib.Decide.{ℕ-discrete, decLt}
@@ -13,7 +12,7 @@ use Rattle.numbers.proofs.Sums.{sum-in-same, sum-in-agree, sum-in-swap, sum-in-
 use Rattle.rooms.specs.Room.{side, crossing, Small, Kept}
 use Rattle.rooms.specs.Move.{Pushed, Less, Taken}
 use Rattle.reach.specs.Reach.{Step, Reach, Closed}
-use Rattle.across.specs.Raise.{Balanced, NoneShort, SameAccount, Shifted, Splits, Tight, Stopped, Raised, Still, MadeRoom, HeldOut}
+use Rattle.across.specs.Raise.{Balanced, NoneShort, Shifted, Splits, Tight, Stopped, Raised, Still, MadeRoom, HeldOut}
 use Rattle.engine.specs.Settle.{Settled}
 use Rattle.engine.proofs.Account.{sum-in-less, cell-change, put-room, put-room-there, put-room-elsewhere, crossing-pushed, pairs-pushed}
 
@@ -133,14 +132,6 @@ kept-covered {n} {room} {room′} s k = record {
 }
 
 -- ---- shifting
-
-pub same-on : {n : ℕ} {room room′ room″ : ℕ → ℕ → ℕ} {over under over′ under′ over″ under″ : ℕ → ℕ}
-    → SameAccount n room over under room′ over′ under′ → SameAccount n room′ over′ under′ room″ over″ under″
-    → SameAccount n room over under room″ over″ under″
-same-on a b = record {
-  account = λ S. omega (arith, a .account S, b .account S);
-  pairs = λ x y lx ly. a .pairs x y lx ly ∙ b .pairs x y lx ly;
-}
 
 pub push-shifts : (n : ℕ) → n ≤ side → {room room′ : ℕ → ℕ → ℕ} {over under over′ under′ : ℕ → ℕ} {a b d : ℕ} → a < n → b < n → (b ≡ a → ⊥)
     → Pushed room room′ b a d → Less over′ over a d → Less under′ under b d → Shifted n room over under room′ over′ under′ a b d
@@ -277,7 +268,7 @@ module _ {n : ℕ} {room room₁ : ℕ → ℕ → ℕ} {over under over₁ unde
     under-small = omega (arith, under-shifted, s .pairs-small b a lb la ne);
   }
 
-  pub stopped : {room′ : ℕ → ℕ → ℕ} {over′ under′ : ℕ → ℕ} {marks : List ℕ} → Settled n room₁ over₁ under₁ room′ over′ under′ a b marks → Stopped n room room′ over′ under′ a b d marks
+  pub stopped : {room′ : ℕ → ℕ → ℕ} {over′ under′ : ℕ → ℕ} {set : ℕ → Bool} → Settled n room₁ over₁ under₁ room′ over′ under′ a b set → Stopped n room room′ over′ under′ a b d set
   stopped s = record {
     account = raised-account la lb even shift (s .kept) (s .reach) (s .shut-room la lb) (s .none-under);
     pairs = λ x y lx ly. shift .same .pairs x y lx ly ∙ s .kept .pairs x y lx ly;
@@ -285,12 +276,11 @@ module _ {n : ℕ} {room room₁ : ℕ → ℕ → ℕ} {over under over₁ unde
     rest-fits = rest-fits la lb even shift (s .kept) (s .reach) (s .shut-room la lb) (s .none-under);
     enough = λ R splits. omega (arith, room-across la lb even shift (s .kept) (s .reach) (s .shut-room la lb) (s .none-under) R splits);
     tight = reach-tight la lb even shift (s .kept) (s .reach) (s .shut-room la lb) (s .none-under);
-    marks-plain = s .marks-plain;
   }
 
 -- what is free of a width: all of it, where the direct room is as wide; or what stopped the round
-pub raised-at-once : {n : ℕ} {room : ℕ → ℕ → ℕ} {over under : ℕ → ℕ} {a b width : ℕ} {marks : List ℕ} → a < n → b < n → Balanced n over under
-    → width ≤ room a b → Raised n room room over under a b width width marks
+pub raised-at-once : {n : ℕ} {room : ℕ → ℕ → ℕ} {over under : ℕ → ℕ} {a b width : ℕ} {set : ℕ → Bool} → a < n → b < n → Balanced n over under
+    → width ≤ room a b → Raised n room room over under a b width width set
 raised-at-once {n} {room} {over} {under} {a} {b} {width} la lb even wide = record {
   account = λ S. omega (arith, sum-in-zero n S over (λ v l e. even .none-over v l), sum-in-zero n S under (λ v l e. even .none-under v l));
   pairs = λ x y lx ly. refl;
@@ -300,13 +290,12 @@ raised-at-once {n} {room} {over} {under} {a} {b} {width} la lb even wide = recor
     enough = λ S s. omega (arith, crossing-member n room S a b la lb (s .inside) (s .outside));
     tight = λ l. absurd (omega arith);
   };
-  marks-plain = λ l. absurd (omega arith);
 }
 
-pub raised-by-round : {n : ℕ} {room room′ : ℕ → ℕ → ℕ} {over′ under′ : ℕ → ℕ} {a b d width free : ℕ} {marks : List ℕ}
-    → room a b + d ≡ width → Stopped n room room′ over′ under′ a b d marks → free ≤ width → free ≤ room′ a b - over′ a
-    → (free < width → free ≡ room′ a b - over′ a) → Raised n room room′ over′ under′ a b width free marks
-raised-by-round {n} {room} {room′} {over′} {under′} {a} {b} {d} {width} {free} {marks} wide s fits less exact = record {
+pub raised-by-round : {n : ℕ} {room room′ : ℕ → ℕ → ℕ} {over′ under′ : ℕ → ℕ} {a b d width free : ℕ} {set : ℕ → Bool}
+    → room a b + d ≡ width → Stopped n room room′ over′ under′ a b d set → free ≤ width → free ≤ room′ a b - over′ a
+    → (free < width → free ≡ room′ a b - over′ a) → Raised n room room′ over′ under′ a b width free set
+raised-by-round {n} {room} {room′} {over′} {under′} {a} {b} {d} {width} {free} {set} wide s fits less exact = record {
   account = s .account;
   pairs = s .pairs;
   under-less = omega (arith, s .under-less);
@@ -315,13 +304,12 @@ raised-by-round {n} {room} {room′} {over′} {under′} {a} {b} {d} {width} {f
     enough = λ S splits. omega (arith, s .enough S splits);
     tight = λ l. rw (exact l) (s .tight (omega (arith, exact l)));
   };
-  marks-plain = λ l. s .marks-plain;
 }
 
 -- ---- balance again after raising
 
-module _ {n : ℕ} {room room′ : ℕ → ℕ → ℕ} {over′ under′ : ℕ → ℕ} {a b width free : ℕ} {marks : List ℕ}
-    (r : Raised n room room′ over′ under′ a b width free marks) where
+module _ {n : ℕ} {room room′ : ℕ → ℕ → ℕ} {over′ under′ : ℕ → ℕ} {a b width free : ℕ} {set : ℕ → Bool}
+    (r : Raised n room room′ over′ under′ a b width free set) where
   pub raised-small : {under : ℕ → ℕ} → Small n room under → width ≤ room a b + room b a → a < n → b < n → (b ≡ a → ⊥) → Small n room′ under′
   raised-small s wide la lb other = record {
     pairs-small = λ x y lx ly ne. omega (arith, s .pairs-small x y lx ly ne, r .pairs x y lx ly);

@@ -6,7 +6,6 @@ use mathlib.Core.Bool.{Bool, true, false, not}
 use mathlib.Core.List.{List}
 use Rattle.numbers.specs.Sums.{sum, sum-in, only}
 use Rattle.rooms.specs.Room.{at, seen, crossing, Small, Lent}
-use Rattle.reach.specs.Reach.{marked}
 
 -- nothing is over and nothing is under
 pub record Balanced (n : ℕ) (over under : ℕ → ℕ) : Type 0 where
@@ -55,14 +54,13 @@ pub record Tight (n : ℕ) (room : ℕ → ℕ → ℕ) (a b free : ℕ) (S : �
 
 -- from a balanced state: d was brought from b to a, and all that can be was brought back without the direct step. The room from
 -- a to b, less what is still over at a, is the least room across, unless none of d is left
-pub record Stopped (n : ℕ) (room : ℕ → ℕ → ℕ) (room′ : ℕ → ℕ → ℕ) (over′ under′ : ℕ → ℕ) (a b d : ℕ) (marks : List ℕ) : Type 0 where
+pub record Stopped (n : ℕ) (room : ℕ → ℕ → ℕ) (room′ : ℕ → ℕ → ℕ) (over′ under′ : ℕ → ℕ) (a b d : ℕ) (set : ℕ → Bool) : Type 0 where
   pub account : (S : ℕ → Bool) → crossing n room S + sum-in n S over′ ≡ crossing n room′ S + sum-in n S under′
   pub pairs : (x y : ℕ) → x < n → y < n → room x y + room y x ≡ room′ x y + room′ y x
   pub under-less : sum n under′ ≤ d
   pub rest-fits : over′ a ≤ room′ a b
   pub enough : (S : ℕ → Bool) → Splits a b S → room′ a b - over′ a ≤ crossing n room S
-  pub tight : room′ a b - over′ a < room a b + d → Tight n room a b (room′ a b - over′ a) (marked marks)
-  pub marks-plain : (x : ℕ) → x < n → at marks x ≤ 1
+  pub tight : room′ a b - over′ a < room a b + d → Tight n room a b (room′ a b - over′ a) set
 
 -- how much of a width is free from a to b, and where that is not all of it, the set that is in the way
 pub record Free (n : ℕ) (room : ℕ → ℕ → ℕ) (a b width free : ℕ) (S : ℕ → Bool) : Type 0 where
@@ -70,13 +68,12 @@ pub record Free (n : ℕ) (room : ℕ → ℕ → ℕ) (a b width free : ℕ) (S
   pub enough : (R : ℕ → Bool) → Splits a b R → free ≤ crossing n room R
   pub tight : free < width → Tight n room a b free S
 
--- from a balanced state: what of the width is free, with the marks of the set that is in the way
-pub record Raised (n : ℕ) (room : ℕ → ℕ → ℕ) (room′ : ℕ → ℕ → ℕ) (over′ under′ : ℕ → ℕ) (a b width free : ℕ) (marks : List ℕ) : Type 0 where
+-- from a balanced state: what of the width is free, with the set that is in the way
+pub record Raised (n : ℕ) (room : ℕ → ℕ → ℕ) (room′ : ℕ → ℕ → ℕ) (over′ under′ : ℕ → ℕ) (a b width free : ℕ) (set : ℕ → Bool) : Type 0 where
   pub account : (S : ℕ → Bool) → crossing n room S + sum-in n S over′ ≡ crossing n room′ S + sum-in n S under′
   pub pairs : (x y : ℕ) → x < n → y < n → room x y + room y x ≡ room′ x y + room′ y x
   pub under-less : sum n under′ ≤ width
-  pub measure : Free n room a b width free (marked marks)
-  pub marks-plain : free < width → (x : ℕ) → x < n → at marks x ≤ 1
+  pub measure : Free n room a b width free set
 
 -- the same room leads out of every set, and each pair has the same room
 pub record Still (n : ℕ) (room room′ : ℕ → ℕ → ℕ) : Type 0 where

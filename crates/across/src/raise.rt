@@ -10,30 +10,42 @@ use rooms::place;
 use rooms::push;
 use rooms::room_of;
 use rooms::take;
+ghost use mathlib.Core.Path.{_≡_};
 ghost use mathlib.Core.Bool.{false};
 ghost use Prim.Native.Nat.{_+_, _*_, _^_, _≤_, _<_};
 ghost use lib.ListN.{length};
+ghost use Rattle.words.specs.Word.{holds};
 ghost use Rattle.rooms.specs.Room.{side, at, seen, Small, Kept, Lent};
 ghost use Rattle.rooms.specs.Move.{Taken};
 ghost use Rattle.across.specs.Raise.{Balanced, AtRest, TwoNodes, NoneShort, Shifted, Stopped, Raised, Measured, MadeRoom, HeldOut};
 
+// How much of a width is free, and the set that is in the way where that is not all of it.
+pub struct Passage {
+    pub free: u32,
+    pub set: u64,
+}
+
+impl Passage {
+    // All of the width is free; the set is empty.
+    pub fn whole(width: u32) -> Passage
+        ensures { λ r. ⌜ r ≡ record { free = width; set = 0 } ⌝ }
+    {
+        Passage {
+            free: width,
+            set: 0,
+        }
+    }
+}
+
 // Moves all that is over to where it lacks, where no set is short.
-pub fn rebalance(
-    rooms: &mut [u32],
-    back: bool,
-    over: &mut [u32],
-    under: &mut [u32],
-    n: usize,
-    marks: &mut [u8],
-)
+pub fn rebalance(rooms: &mut [u32], back: bool, over: &mut [u32], under: &mut [u32], n: usize)
     requires lent { ⌜ Lent n (now rooms) (now over) (now under) ⌝ }
     requires small { ⌜ Small n (seen (now rooms) back) (at (now under)) ⌝ }
-    requires marks { ⌜ n ≤ length (now marks) ⌝ }
     requires covered { ⌜ NoneShort n (seen (now rooms) back) (at (now over)) (at (now under)) ⌝ }
     ensures kept { λ r. ⌜ Kept n (seen (now (rooms .entry)) back) (at (now (over .entry))) (at (now (under .entry))) (seen (now (rooms .exit)) back) (at (now (over .exit))) (at (now (under .exit))) ⌝ }
     ensures balanced { λ r. ⌜ Balanced n (at (now (over .exit))) (at (now (under .exit))) ⌝ }
 {
-    settle(rooms, back, over, under, n, n, n, marks);
+    settle(rooms, back, over, under, n, n, n);
 }
 
 // Brings d from b to a: it is then over at a and lacks at b.
@@ -57,7 +69,8 @@ fn shift(
     add(under, b, d);
 }
 
-// Brings d from b to a, and as much of it as can be back to b without the direct step.
+// Brings d from b to a, and as much of it as can be back to b without the direct step. Returns the reach of
+// what is still over.
 fn go_round(
     rooms: &mut [u32],
     back: bool,
@@ -67,20 +80,18 @@ fn go_round(
     a: usize,
     b: usize,
     d: u32,
-    marks: &mut [u8],
-)
+) -> u64
     requires rest { ⌜ AtRest n back (now rooms) (now over) (now under) ⌝ }
-    requires marks { ⌜ n ≤ length (now marks) ⌝ }
     requires nodes { ⌜ TwoNodes n a b ⌝ }
     requires fits { ⌜ d ≤ seen (now rooms) back b a ⌝ }
-    ensures { λ r. ⌜ Stopped n (seen (now (rooms .entry)) back) (seen (now (rooms .exit)) back) (at (now (over .exit))) (at (now (under .exit))) a b d (now (marks .exit)) ⌝ }
+    ensures { λ r. ⌜ Stopped n (seen (now (rooms .entry)) back) (seen (now (rooms .exit)) back) (at (now (over .exit))) (at (now (under .exit))) a b d (holds r) ⌝ }
 {
     shift(rooms, back, over, under, n, a, b, d);
-    settle(rooms, back, over, under, n, a, b, marks);
+    settle(rooms, back, over, under, n, a, b)
 }
 
 // How much of a width is free from a to b: the least room that leads out of a set with a inside and b
-// outside, at most the width. Where that is less than the width, the marks hold the least such set.
+// outside, at most the width; and, where that is less than the width, the least such set.
 pub fn raise(
     rooms: &mut [u32],
     back: bool,
@@ -90,20 +101,21 @@ pub fn raise(
     a: usize,
     b: usize,
     width: u32,
-    marks: &mut [u8],
-) -> u32
+) -> Passage
     requires rest { ⌜ AtRest n back (now rooms) (now over) (now under) ⌝ }
-    requires marks { ⌜ n ≤ length (now marks) ⌝ }
     requires nodes { ⌜ TwoNodes n a b ⌝ }
     requires wide { ⌜ width ≤ seen (now rooms) back a b + seen (now rooms) back b a ⌝ }
-    ensures { λ r. ⌜ Raised n (seen (now (rooms .entry)) back) (seen (now (rooms .exit)) back) (at (now (over .exit))) (at (now (under .exit))) a b width r (now (marks .exit)) ⌝ }
+    ensures { λ r. ⌜ Raised n (seen (now (rooms .entry)) back) (seen (now (rooms .exit)) back) (at (now (over .exit))) (at (now (under .exit))) a b width (r .free) (holds (r .set)) ⌝ }
 {
     let there = room_of(rooms, back, a, b);
     if width <= there {
-        return width;
+        return Passage::whole(width);
     }
-    go_round(rooms, back, over, under, n, a, b, width - there, marks);
-    lesser(width, room_of(rooms, back, a, b) - over[a])
+    let set = go_round(rooms, back, over, under, n, a, b, width - there);
+    Passage {
+        free: lesser(width, room_of(rooms, back, a, b) - over[a]),
+        set,
+    }
 }
 
 // What lacks at b is moved straight back to a, at most the direct room, and paid there: after raising,
@@ -136,19 +148,17 @@ pub fn measure(
     a: usize,
     b: usize,
     width: u32,
-    marks: &mut [u8],
 ) -> u32
     requires rest { ⌜ AtRest n back (now rooms) (now over) (now under) ⌝ }
-    requires marks { ⌜ n ≤ length (now marks) ⌝ }
     requires nodes { ⌜ TwoNodes n a b ⌝ }
     requires wide { ⌜ width ≤ seen (now rooms) back a b + seen (now rooms) back b a ⌝ }
     ensures measured { λ r. ⌜ Measured n back (now (rooms .entry)) (now (rooms .exit)) a b width r ⌝ }
     ensures balanced { λ r. ⌜ Balanced n (at (now (over .exit))) (at (now (under .exit))) ⌝ }
 {
-    let free = raise(rooms, back, over, under, n, a, b, width, marks);
+    let passage = raise(rooms, back, over, under, n, a, b, width);
     bring_back(rooms, back, over, under, n, a, b);
-    rebalance(rooms, back, over, under, n, marks);
-    free
+    rebalance(rooms, back, over, under, n);
+    passage.free
 }
 
 // Makes the room from a to b at least `out` and the room back at least `home`: what the one lacks is

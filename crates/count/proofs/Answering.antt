@@ -23,7 +23,8 @@ use Rattle.flow.proofs.Answer.{the-type}
 use Rattle.flow.specs.declared.Answer.{Answer}
 use Rattle.flow.specs.declared.Answer.the-variants.{Runs, Short, Refused}
 use Rattle.narrow.specs.Answer.{Ranges, NarrowAnswers}
-use Rattle.counting.specs.Counting.{Counting, counting-of, holds, Taken}
+use Rattle.words.specs.Word.{holds}
+use Rattle.counting.specs.Counting.{Counting, counting-of, Taken}
 use Rattle.counting.specs.Network.{pairs, network}
 use Rattle.count.specs.Narrowed.{DomainsOf}
 use Rattle.counting.specs.Rules.{counting-rules}

@@ -9,10 +9,10 @@ use lib.Dec.{eqb, ltb}
 use borrow.Author.Tests.{lt-ltb, le-ltb, eq-eqb, ne-eqb}
 use Rattle.numbers.specs.Sums.{only}
 use Rattle.rooms.specs.Room.{at}
-use Rattle.counting.specs.Counting.{holds}
+use Rattle.words.specs.Word.{holds}
 use Rattle.count.specs.Narrowed.{DomainOf}
 use Rattle.counting.proofs.Grid.{only-most}
-use Rattle.counting.proofs.Words.{holds-half, holds-last, zero-holds}
+use Rattle.words.proofs.Bits.{holds-half, holds-last, zero-holds}
 
 -- the bits of the values from j on stand
 pub record Built (highs : List ℕ) (start values j word : ℕ) : Type 0 where

@@ -23,7 +23,7 @@ use Rattle.flow.specs.declared.Answer.the-variants.{Runs, Short, Refused}
 use Rattle.counting.specs.Counting.{Counting, counting-of, Assignment, FewestUses, MostUses}
 use Rattle.counting.specs.Network.{network}
 use Rattle.count.specs.Answer.{NetworkAnswers, Handed, Buffers, judged, Counted, CountAnswers}
-use Rattle.counting.proofs.Words.{same-word}
+use Rattle.words.proofs.Bits.{same-word}
 use Rattle.counting.proofs.Assigned.{assignment-flows}
 use Rattle.count.proofs.Answering.{judged-network}
 

@@ -10,7 +10,7 @@ use native.Mathlib.Omega.{arith}
 use native.Mathlib.Decide.{ℕ-discrete, decLe, decLt, map-dec}
 use lib.Dec.{eqb}
 use lib.ListN.{length, getD}
-use borrow.Author.Tests.{ne-eqb, eq-eqb, lt-leb}
+use borrow.Author.Tests.{ne-eqb, eq-eqb}
 use Rattle.numbers.specs.Sums.{only, put}
 use Rattle.numbers.proofs.Sums.{sum-same, last-or-before}
 use Rattle.rooms.specs.Room.{at}
@@ -18,10 +18,11 @@ use Rattle.plan.specs.Verdict.{verdict}
 use Rattle.plan.specs.declared.Verdict.the-variants.{Accepted}
 use Rattle.plan.proofs.Tried.{decided?, if?, each?, accepts?}
 use Rattle.plan.proofs.Worked as plans
-use Rattle.counting.specs.Counting.{Counting, counting-of, holds, uses, Assignment, Taken}
+use Rattle.words.specs.Word.{holds}
+use Rattle.words.proofs.Bits.{past-holds}
+use Rattle.counting.specs.Counting.{Counting, counting-of, uses, Assignment, Taken}
 use Rattle.counting.specs.Rules.{counting-rules}
 use Rattle.count.specs.Answer.{Buffers, Counted}
-use Rattle.counting.proofs.Words.{names-beyond-exactly}
 
 -- ---- the table
 
@@ -167,7 +168,7 @@ module _ (c : Counting) where
   -- a word below 2 ^ w has no value from w on
   word-small : (domains : List ℕ) (i j : ℕ) → at domains i < 2 ^ c .values → holds (at domains i) j ≡ true → j < c .values
   word-small domains i j small there = by-cases (decLt j (c .values)) (λ l. l) (λ no. absurd (true≢false
-      (sym (names-beyond-exactly domains (c .values) i .1 (j, omega arith, there)) ∙ lt-leb (2 ^ c .values) (at domains i) small)))
+      (sym there ∙ past-holds (c .values) (at domains i) j small (omega arith))))
 
   abbrev counted? : (b : Buffers) → List (ℕ → ℕ) → Option (Counted c b b)
   counted? b assignments = do

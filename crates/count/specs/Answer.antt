@@ -16,7 +16,8 @@ use Rattle.plan.specs.declared.Verdict.the-variants.{Accepted, Refused as Turne
 use Rattle.lists.specs.Written.{ArcsWritten, SuppliesWritten}
 use Rattle.flow.specs.declared.Answer.{Answer}
 use Rattle.flow.specs.declared.Answer.the-variants.{Runs, Short, Refused}
-use Rattle.counting.specs.Counting.{Counting, counting-of, holds, Assignment, Taken, FewestUses, MostUses}
+use Rattle.words.specs.Word.{holds}
+use Rattle.counting.specs.Counting.{Counting, counting-of, Assignment, Taken, FewestUses, MostUses}
 use Rattle.counting.specs.Network.{network}
 use Rattle.counting.specs.Rules.{counting-rules}
 

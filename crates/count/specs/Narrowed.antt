@@ -5,7 +5,7 @@ use mathlib.Core.Bool.{_&&_}
 use mathlib.Core.List.{List}
 use lib.Dec.{ltb}
 use Rattle.rooms.specs.Room.{at}
-use Rattle.counting.specs.Counting.{holds}
+use Rattle.words.specs.Word.{holds}
 
 -- value j can still occur where the high of its arc, which is highs' entry start + j, is above 0
 pub record DomainOf (highs : List ℕ) (start values word : ℕ) : Type 0 where

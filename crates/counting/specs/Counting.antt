@@ -1,11 +1,12 @@
 -- Counting plans. Each variable has a domain of values, and each value a range of how often it may be used.
-use Prim.Native.Nat.{ℕ, _+_, _*_, _/_, _%_, _^_, _≤_, _<_}
+use Prim.Native.Nat.{ℕ, _+_, _*_, _/_, _≤_, _<_}
 use mathlib.Core.Path.{_≡_}
 use mathlib.Core.Bool.{Bool, true}
 use mathlib.Core.List.{List}
 use lib.Dec.{eqb}
 use lib.ListN.{length, getD}
 use Rattle.numbers.specs.Sums.{sum-in}
+use Rattle.words.specs.Word.{holds}
 
 pub record Counting : Type 0 where
   pub variables : ℕ
@@ -14,15 +15,11 @@ pub record Counting : Type 0 where
   pub low : ℕ → ℕ
   pub high : ℕ → ℕ
 
--- value j is in the domain that a word holds
-abbrev pub holds : ℕ → ℕ → Bool
-holds word j = eqb (word / 2 ^ j % 2) 1
-
 -- a count range is two numbers of the list: low, high
 abbrev pub range-entries : ℕ
 range-entries = 2
 
--- the counting plan that two lists hold: a word for each variable, and two numbers for each value
+-- the counting plan that two lists hold: for each variable the word of its domain, and two numbers for each value
 abbrev pub counting-of : (domains counts : List ℕ) → Counting
 counting-of domains counts = record {
   variables = length domains;

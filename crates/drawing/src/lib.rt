@@ -1,8 +1,9 @@
 // The network of a counting plan of v variables and w values, drawn arc by arc and node by node. It uses `counting` for
-// what is drawn and `lists` for writing it down. Internal: its functions have `requires`.
+// what is drawn, `words` for the domains and `lists` for writing it down. Internal: its functions have `requires`.
 use counting::RANGE_ENTRIES;
 use lists::write_arc;
 use plan::Arc;
+use words::bit;
 ghost use mathlib.Core.Path.{_≡_};
 ghost use mathlib.Core.Bool.{cond};
 ghost use mathlib.Core.List.{List};
@@ -11,29 +12,19 @@ ghost use lib.Dec.{ltb};
 ghost use lib.IntN.{pos, negℤ};
 ghost use lib.ListN.{length, getD};
 ghost use Rattle.numbers.specs.Sums.{only};
+ghost use Rattle.words.specs.Word.{holds};
 ghost use Rattle.plan.specs.Limits.{most-nodes, arc-entries};
 ghost use Rattle.lists.specs.Written.{ArcsWritten, SuppliesWritten};
-ghost use Rattle.counting.specs.Counting.{Counting, holds, range-entries, counting-of};
+ghost use Rattle.counting.specs.Counting.{Counting, range-entries, counting-of};
 ghost use Rattle.counting.specs.Network.{network};
 
-// How often a variable can take value j: once if its domain has it, else never.
-fn times(word: u64, j: u32) -> u32
-    requires { ⌜ j < most-nodes ⌝ }
-    ensures { λ r. ⌜ r ≡ only (holds word j) 1 ⌝ }
-{
-    if (word >> j) % 2 == 1 {
-        return 1;
-    }
-    0
-}
-
-// The arc from variable i to value j.
+// The arc from variable i to value j: it takes one if the domain has the value, else none.
 fn pair_arc(domains: &[u64], i: usize, j: usize) -> Arc
     requires { ⌜ (i < length (now domains)) × (length (now domains) + j < most-nodes) ⌝ }
     ensures { λ r. ⌜ r ≡ record { from = i; to = length (now (domains .entry)) + j; low = 0; high = only (holds (getD (now (domains .entry)) i 0) j) 1 } ⌝ }
 {
     let to = (domains.len() + j) as u32;
-    Arc::new(i as u32, to, 0, times(domains[i], j as u32))
+    Arc::new(i as u32, to, 0, bit(domains[i], j) as u32)
 }
 
 // The arc from value j to the last node, where there are v variables and w values.

@@ -7,6 +7,7 @@ use mathlib.Core.List.{List}
 use mathlib.Core.Logic.{_⊎_, inl, inr, ⊎-elim, by-cases}
 use native.Mathlib.Omega.{arith}
 use native.Mathlib.Decide.{ℕ-discrete, decLt}
+use lib.ListN.{length}
 use Rattle.numbers.specs.Sums.{sum, put}
 use Rattle.numbers.proofs.Sums.{sum-le, sum-member, sum-in-put, put-elsewhere}
 use Rattle.rooms.specs.Room.{Small, Kept, Lent, SameLengths}
@@ -49,19 +50,14 @@ lent-still same l = record {
   under-whole = omega (arith, same .third-length, l .under-whole);
 }
 
-pub desk-still : {n : ℕ} {marks order finder marks′ order′ finder′ : List ℕ} → SameLengths marks order finder marks′ order′ finder′
-    → Desk n marks order finder → Desk n marks′ order′ finder′
-desk-still same d = record {
-  marks-whole = omega (arith, same .first-length, d .marks-whole);
-  order-whole = omega (arith, same .second-length, d .order-whole);
-  finder-whole = omega (arith, same .third-length, d .finder-whole);
+pub desk-still : {n : ℕ} {order finder order′ finder′ : List ℕ} → length order′ ≡ length order → length finder′ ≡ length finder
+    → Desk n order finder → Desk n order′ finder′
+desk-still same-order same-finder d = record {
+  order-whole = omega (arith, d .order-whole);
+  finder-whole = omega (arith, d .finder-whole);
 }
 
 -- two numbers of a sum are together at most the sum
--- a length that stays has room for as many
-pub still-fits : {n a b : ℕ} → a ≡ b → n ≤ b → n ≤ a
-still-fits same fits = omega arith
-
 pub two-members : (n : ℕ) (u : ℕ → ℕ) (x y : ℕ) → x < n → y < n → (x ≡ y → ⊥) → u x + u y ≤ sum n u
 two-members n u x y lx ly ne = omega (
   arith,

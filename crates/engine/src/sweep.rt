@@ -44,8 +44,8 @@ fn turn(
     over: &mut [u32],
     under: &mut [u32],
     n: usize,
-    order: &[usize],
-    finder: &[usize],
+    order: &[u8],
+    finder: &[u8],
     starts: usize,
     j: usize,
 )
@@ -55,11 +55,11 @@ fn turn(
     requires found { ⌜ (starts ≤ j → (at (now finder) j < n) × (at (now finder) j ≡ at (now order) j → ⊥)) ⌝ }
     ensures { λ r. ⌜ Turned n (seen (now (rooms .entry)) back) (at (now (over .entry))) (at (now (under .entry))) (seen (now (rooms .exit)) back) (at (now (over .exit))) (at (now (under .exit))) (at (now (order .entry))) (at (now (finder .entry))) starts j ⌝ }
 {
-    let y = order[j];
+    let y = order[j] as usize;
     if j < starts {
         pay(over, under, y);
     } else {
-        let x = finder[j];
+        let x = finder[j] as usize;
         move_on(rooms, back, under, x, y);
     }
 }
@@ -71,8 +71,8 @@ pub fn sweep(
     over: &mut [u32],
     under: &mut [u32],
     n: usize,
-    order: &[usize],
-    finder: &[usize],
+    order: &[u8],
+    finder: &[u8],
     starts: usize,
     count: usize,
 )

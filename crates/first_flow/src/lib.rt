@@ -41,10 +41,8 @@ fn fix(
     rooms: &mut [u32],
     over: &mut [u32],
     under: &mut [u32],
-    marks: &mut [u8],
 ) -> u32
     requires lent { ⌜ Lent (length (now supplies)) (now rooms) (now over) (now under) ⌝ }
-    requires marks { ⌜ length (now supplies) ≤ length (now marks) ⌝ }
     requires arc { ⌜ i < length (now arcs) / arc-entries ⌝ }
     requires ready { ⌜ ((p : Plan) × ((f : ℕ → ℕ) × Fixing (now arcs) (now supplies) k count i p f (seen (now rooms) false) (at (now over)) (at (now under)))) ⌝ }
     ensures { λ r. ⌜ ((p : Plan) (f : ℕ → ℕ) → Fixing (now (arcs .entry)) (now (supplies .entry)) k count i p f (seen (now (rooms .entry)) false) (at (now (over .entry))) (at (now (under .entry))) → Smallest (fixed p f i) i r × Ready (held (fixed p f i) i r) (seen (now (rooms .exit)) false) (at (now (over .exit))) (at (now (under .exit)))) ⌝ }
@@ -53,30 +51,8 @@ fn fix(
     let n = supplies.len();
     let from = arc.from as usize;
     let to = arc.to as usize;
-    let least = end_of(
-        rooms,
-        false,
-        over,
-        under,
-        n,
-        from,
-        to,
-        arc.low,
-        arc.high,
-        marks,
-    );
-    hold_at(
-        rooms,
-        over,
-        under,
-        n,
-        from,
-        to,
-        arc.low,
-        arc.high,
-        least,
-        marks,
-    );
+    let least = end_of(rooms, false, over, under, n, from, to, arc.low, arc.high);
+    hold_at(rooms, over, under, n, from, to, arc.low, arc.high, least);
     least
 }
 
@@ -91,10 +67,8 @@ pub fn first_flow(
     rooms: &mut [u32],
     over: &mut [u32],
     under: &mut [u32],
-    marks: &mut [u8],
 )
     requires lent { ⌜ Lent (length (now supplies)) (now rooms) (now over) (now under) ⌝ }
-    requires marks { ⌜ length (now supplies) ≤ length (now marks) ⌝ }
     requires whole { ⌜ length (now arcs) / arc-entries ≤ length (now counts) ⌝ }
     requires ready { ⌜ ((p : Plan) × (Listed (now arcs) (now supplies) k count p × WellFormed p × Ready p (seen (now rooms) false) (at (now over)) (at (now under)))) ⌝ }
     ensures first { λ r. ⌜ ((p : Plan) → Listed (now (arcs .entry)) (now (supplies .entry)) k count p → WellFormed p → Ready p (seen (now (rooms .entry)) false) (at (now (over .entry))) (at (now (under .entry))) → FirstFlow p (at (now (counts .exit)))) ⌝ }
@@ -103,7 +77,7 @@ pub fn first_flow(
     let total = arcs.len() / Arc::ENTRIES;
     let mut i = 0;
     while i < total {
-        counts[i] = fix(arcs, supplies, k, count, i, rooms, over, under, marks);
+        counts[i] = fix(arcs, supplies, k, count, i, rooms, over, under);
         i += 1;
     }
 }

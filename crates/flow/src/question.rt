@@ -27,13 +27,13 @@ fn work_out_on(
     rooms: &mut [u32],
     over: &mut [u32],
     under: &mut [u32],
-    marks: &mut [u8],
 ) -> Asked
-    requires desk { ⌜ EmptyDesk (now arcs) (now supplies) (now rooms) (now over) (now under) (now marks) ⌝ }
+    requires desk { ⌜ EmptyDesk (now arcs) (now supplies) (now rooms) (now over) (now under) ⌝ }
     requires whole { ⌜ (length (now arcs) / arc-entries ≤ length (now «arc_buffer»)) × (length (now supplies) ≤ length (now «node_buffer»)) ⌝ }
     ensures { λ r. ⌜ Told (plan-of (now (arcs .entry)) (now (supplies .entry))) (now («arc_buffer» .entry)) (now («node_buffer» .entry)) (now («arc_buffer» .exit)) (now («node_buffer» .exit)) r ⌝ }
 {
-    let asked = ask(arcs, supplies, rooms, over, under, marks);
+    let outcome = ask(arcs, supplies, rooms, over, under);
+    let asked = outcome.asked;
     let Asked::Lacks(value) = asked else {
         first_flow(
             arcs,
@@ -44,12 +44,11 @@ fn work_out_on(
             rooms,
             over,
             under,
-            marks,
         );
         return Asked::Balances;
     };
-    mark_nodes(marks, supplies.len(), node_buffer);
-    mark_arcs(arcs, supplies, marks, arc_buffer);
+    mark_nodes(outcome.set, supplies.len(), node_buffer);
+    mark_arcs(arcs, supplies, outcome.set, arc_buffer);
     Asked::Lacks(value)
 }
 
@@ -62,7 +61,6 @@ fn work_out(arcs: &[u32], supplies: &[i32], arc_buffer: &mut [u32], node_buffer:
     let mut rooms = [0u32; Rooms::CELLS];
     let mut over = [0u32; Plan::MOST_NODES];
     let mut under = [0u32; Plan::MOST_NODES];
-    let mut marks = [0u8; Plan::MOST_NODES];
     work_out_on(
         arcs,
         supplies,
@@ -71,7 +69,6 @@ fn work_out(arcs: &[u32], supplies: &[i32], arc_buffer: &mut [u32], node_buffer:
         &mut rooms,
         &mut over,
         &mut under,
-        &mut marks,
     )
 }
 

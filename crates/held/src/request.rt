@@ -43,9 +43,8 @@ fn hold_arc(
     rooms: &mut [u32],
     over: &mut [u32],
     under: &mut [u32],
-    marks: &mut [u8],
 )
-    requires ready { ⌜ ReadyDesk (now arcs) (now supplies) (now rooms) (now over) (now under) (now marks) ⌝ }
+    requires ready { ⌜ ReadyDesk (now arcs) (now supplies) (now rooms) (now over) (now under) ⌝ }
     requires arc { ⌜ k < length (now arcs) / arc-entries ⌝ }
     requires possible { ⌜ Possible (plan-of (now arcs) (now supplies)) k count ⌝ }
     ensures { λ r. ⌜ Ready (held (plan-of (now (arcs .entry)) (now (supplies .entry))) k count) (seen (now (rooms .exit)) false) (at (now (over .exit))) (at (now (under .exit))) ⌝ }
@@ -54,18 +53,7 @@ fn hold_arc(
     let n = supplies.len();
     let from = arc.from as usize;
     let to = arc.to as usize;
-    hold_at(
-        rooms,
-        over,
-        under,
-        n,
-        from,
-        to,
-        arc.low,
-        arc.high,
-        count,
-        marks,
-    );
+    hold_at(rooms, over, under, n, from, to, arc.low, arc.high, count);
 }
 
 // Whether the count lies outside the narrowed range of arc k, in a plan that stands ready.
@@ -77,16 +65,15 @@ fn out_of_range(
     rooms: &mut [u32],
     over: &mut [u32],
     under: &mut [u32],
-    marks: &mut [u8],
 ) -> bool
-    requires ready { ⌜ ReadyDesk (now arcs) (now supplies) (now rooms) (now over) (now under) (now marks) ⌝ }
+    requires ready { ⌜ ReadyDesk (now arcs) (now supplies) (now rooms) (now over) (now under) ⌝ }
     requires arc { ⌜ k < length (now arcs) / arc-entries ⌝ }
     ensures outside { λ r. ⌜ (r ≡ true → OutsideRange (plan-of (now (arcs .entry)) (now (supplies .entry))) k count) ⌝ }
     ensures possible { λ r. ⌜ (r ≡ false → Possible (plan-of (now (arcs .entry)) (now (supplies .entry))) k count) ⌝ }
-    ensures ready { λ r. ⌜ ReadyDesk (now (arcs .entry)) (now (supplies .entry)) (now (rooms .exit)) (now (over .exit)) (now (under .exit)) (now (marks .exit)) ⌝ }
+    ensures ready { λ r. ⌜ ReadyDesk (now (arcs .entry)) (now (supplies .entry)) (now (rooms .exit)) (now (over .exit)) (now (under .exit)) ⌝ }
 {
-    let low = end_for(arcs, supplies, k, false, rooms, over, under, marks);
-    let high = end_for(arcs, supplies, k, true, rooms, over, under, marks);
+    let low = end_for(arcs, supplies, k, false, rooms, over, under);
+    let high = end_for(arcs, supplies, k, true, rooms, over, under);
     outside(count, low, high)
 }
 
@@ -100,26 +87,15 @@ fn write_held(
     rooms: &mut [u32],
     over: &mut [u32],
     under: &mut [u32],
-    marks: &mut [u8],
 )
-    requires ready { ⌜ ReadyDesk (now arcs) (now supplies) (now rooms) (now over) (now under) (now marks) ⌝ }
+    requires ready { ⌜ ReadyDesk (now arcs) (now supplies) (now rooms) (now over) (now under) ⌝ }
     requires arc { ⌜ k < length (now arcs) / arc-entries ⌝ }
     requires whole { ⌜ length (now arcs) / arc-entries ≤ length (now «arc_buffer») ⌝ }
     requires possible { ⌜ Possible (plan-of (now arcs) (now supplies)) k count ⌝ }
     ensures { λ r. ⌜ Flowing (plan-of (now (arcs .entry)) (now (supplies .entry))) k count (now («arc_buffer» .entry)) (now («arc_buffer» .exit)) ⌝ }
 {
-    hold_arc(arcs, supplies, k, count, rooms, over, under, marks);
-    first_flow(
-        arcs,
-        supplies,
-        k,
-        count,
-        arc_buffer,
-        rooms,
-        over,
-        under,
-        marks,
-    );
+    hold_arc(arcs, supplies, k, count, rooms, over, under);
+    first_flow(arcs, supplies, k, count, arc_buffer, rooms, over, under);
 }
 
 // Writes the first flow with the count on arc k, in a plan that stands ready, unless none has it.
@@ -132,27 +108,16 @@ fn hold_and_write(
     rooms: &mut [u32],
     over: &mut [u32],
     under: &mut [u32],
-    marks: &mut [u8],
 ) -> Answer
-    requires ready { ⌜ ReadyDesk (now arcs) (now supplies) (now rooms) (now over) (now under) (now marks) ⌝ }
+    requires ready { ⌜ ReadyDesk (now arcs) (now supplies) (now rooms) (now over) (now under) ⌝ }
     requires arc { ⌜ k < length (now arcs) / arc-entries ⌝ }
     requires whole { ⌜ length (now arcs) / arc-entries ≤ length (now «arc_buffer») ⌝ }
     ensures { λ r. ⌜ Told (plan-of (now (arcs .entry)) (now (supplies .entry))) k count (now («arc_buffer» .entry)) (now («arc_buffer» .exit)) r ⌝ }
 {
-    if out_of_range(arcs, supplies, k, count, rooms, over, under, marks) {
+    if out_of_range(arcs, supplies, k, count, rooms, over, under) {
         return Answer::Outside;
     }
-    write_held(
-        arcs,
-        supplies,
-        k,
-        count,
-        arc_buffer,
-        rooms,
-        over,
-        under,
-        marks,
-    );
+    write_held(arcs, supplies, k, count, arc_buffer, rooms, over, under);
     Answer::Runs
 }
 
@@ -166,28 +131,18 @@ fn work_out_on(
     rooms: &mut [u32],
     over: &mut [u32],
     under: &mut [u32],
-    marks: &mut [u8],
 ) -> Answer
-    requires desk { ⌜ EmptyDesk (now arcs) (now supplies) (now rooms) (now over) (now under) (now marks) ⌝ }
+    requires desk { ⌜ EmptyDesk (now arcs) (now supplies) (now rooms) (now over) (now under) ⌝ }
     requires arc { ⌜ k < length (now arcs) / arc-entries ⌝ }
     requires whole { ⌜ length (now arcs) / arc-entries ≤ length (now «arc_buffer») ⌝ }
     ensures { λ r. ⌜ Told (plan-of (now (arcs .entry)) (now (supplies .entry))) k count (now («arc_buffer» .entry)) (now («arc_buffer» .exit)) r ⌝ }
 {
-    let asked = ask(arcs, supplies, rooms, over, under, marks);
+    let outcome = ask(arcs, supplies, rooms, over, under);
+    let asked = outcome.asked;
     let Asked::Balances = asked else {
         return Answer::to(asked);
     };
-    hold_and_write(
-        arcs,
-        supplies,
-        k,
-        count,
-        arc_buffer,
-        rooms,
-        over,
-        under,
-        marks,
-    )
+    hold_and_write(arcs, supplies, k, count, arc_buffer, rooms, over, under)
 }
 
 // Works a held arc of a well-formed plan out.
@@ -200,7 +155,6 @@ fn work_out(arcs: &[u32], supplies: &[i32], k: usize, count: u32, arc_buffer: &m
     let mut rooms = [0u32; Rooms::CELLS];
     let mut over = [0u32; Plan::MOST_NODES];
     let mut under = [0u32; Plan::MOST_NODES];
-    let mut marks = [0u8; Plan::MOST_NODES];
     work_out_on(
         arcs,
         supplies,
@@ -210,7 +164,6 @@ fn work_out(arcs: &[u32], supplies: &[i32], k: usize, count: u32, arc_buffer: &m
         &mut rooms,
         &mut over,
         &mut under,
-        &mut marks,
     )
 }
 

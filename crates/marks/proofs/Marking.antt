@@ -1,12 +1,10 @@
--- What a mark goes by: a "no" marks as a low end that leaves out no arc; and the marks of a set, as they are written.
-use Prim.Native.Nat.{ℕ, _≤_, _<_}
+-- What a mark goes by: a "no" marks as a low end that leaves out no arc.
+use Prim.Native.Nat.{ℕ, _<_}
 use mathlib.Core.Path.{_≡_, refl, _∙_}
-use mathlib.Core.Bool.{Bool, true, false, cond, not, _&&_}
+use mathlib.Core.Bool.{Bool, true, false, cond, not, _&&_, and-true}
 use native.Mathlib.Omega.{arith}
 use lib.Dec.{eqb}
 use borrow.Author.Tests.{ne-eqb}
-use Rattle.numbers.specs.Sums.{only}
-use Rattle.numbers.proofs.Sums.{eqb-cases}
 use Rattle.plan.specs.Plan.{Plan, Set}
 use Rattle.plan.specs.Shortage.{leaves, enters}
 use Rattle.plan.specs.Reason.{others, high-is-news, low-is-news, no-marks, low-marks, end-marks}
@@ -17,7 +15,7 @@ and-not-turned true false = refl
 and-not-turned false true = refl
 and-not-turned false false = refl
 
--- the mark of arc j for the reason of an end of arc k, by what the code sees: whether its two ends are marked, and two flags
+-- the mark of arc j for the reason of an end of arc k, by what the code sees: whether its two ends are inside, and two flags
 module _ (p : Plan) (k : ℕ) (S : Set) (j : ℕ) {from to : Bool} (from-is : from ≡ S (p .from j)) (to-is : to ≡ S (p .to j)) where
   pub entered : {flag : Bool} → flag ≡ (to && not from) → flag ≡ enters p S j
   entered is = is ∙ rw (from-is, to-is) (and-not-turned (S (p .to j)) (S (p .from j)))
@@ -35,14 +33,6 @@ module _ (p : Plan) (k : ℕ) (S : Set) (j : ℕ) {enter leave : Bool} (enters-i
       → cond (leave && high-is-news p j) 2 (cond (enter && low-is-news p j) 1 0) ≡ end-marks p k upper S j
   low-marked down = rw (down, enters-is, leaves-is)
 
-and-true : (a : Bool) → (a && true) ≡ a
-and-true true = refl
-and-true false = refl
-
 -- a low end of an arc k leaves out no arc before k
 pub low-marks-before : (p : Plan) (S : Set) (k j : ℕ) → j < k → low-marks p k S j ≡ no-marks p S j
 low-marks-before p S k j l = rw (ne-eqb j k (λ same. omega arith), and-true)
-
--- the marks of a set, as they are written: 1 inside, 0 not
-pub plain-mark : (x : ℕ) → x ≤ 1 → x ≡ only (eqb x 1) 1
-plain-mark x l = eqb-cases (λ t. x ≡ only t 1) x 1 (λ e. e) (λ ne. omega arith)

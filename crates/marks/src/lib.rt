@@ -1,15 +1,18 @@
 // The marks of a "no" or a reason, written to lent buffers. A "no" uses the bounds that a low end uses,
-// and leaves out no arc, so one loop marks for both. It uses `plan` for what is cited, `reach` for the marked
+// and leaves out no arc, so one loop marks for both. It uses `plan` for what is cited, `words` for the
 // set and `lists` for what is written. Internal: most of its functions have `requires`.
 use plan::Arc;
 use plan::wide;
+use words::bit;
+use words::has;
 ghost use mathlib.Core.Path.{_≡_};
 ghost use mathlib.Core.Bool.{not, _&&_, cond};
 ghost use Prim.Native.Nat.{_≤_, _<_, _/_};
 ghost use lib.Dec.{eqb};
 ghost use lib.ListN.{length};
+ghost use Rattle.numbers.specs.Sums.{only};
+ghost use Rattle.words.specs.Word.{word-bits, holds};
 ghost use Rattle.rooms.specs.Room.{at};
-ghost use Rattle.reach.specs.Reach.{marked};
 ghost use Rattle.plan.specs.Limits.{widest-low, widest-high, arc-entries};
 ghost use Rattle.plan.specs.Plan.{WellFormed, plan-of};
 ghost use Rattle.plan.specs.Reason.{no-marks, end-marks};
@@ -39,27 +42,26 @@ fn cite(low: u32, high: u32, upper: bool, lower: bool) -> u32
     0
 }
 
-// Whether the node that stands at a place of the arcs is marked.
-fn end_marked(arcs: &[u32], marks: &[u8], place: usize) -> bool
-    requires { ⌜ (place < length (now arcs)) × (at (now arcs) place < length (now marks)) ⌝ }
-    ensures { λ r. ⌜ r ≡ marked (now (marks .entry)) (at (now (arcs .entry)) place) ⌝ }
+// Whether the node that stands at a place of the arcs is in a set.
+fn end_inside(arcs: &[u32], set: u64, place: usize) -> bool
+    requires { ⌜ (place < length (now arcs)) × (at (now arcs) place < word-bits) ⌝ }
+    ensures { λ r. ⌜ r ≡ holds set (at (now (arcs .entry)) place) ⌝ }
 {
-    marks[wide(arcs[place])] == 1
+    has(set, wide(arcs[place]))
 }
 
 // The mark of arc j for the reason of an end of arc k: of its high end if `upper`, else of its low end.
 // The arcs that leave the set count at the one end, those that enter it at the other; k itself is left out.
-fn mark_of(arcs: &[u32], supplies: &[i32], marks: &[u8], k: usize, upper: bool, j: usize) -> u32
+fn mark_of(arcs: &[u32], supplies: &[i32], set: u64, k: usize, upper: bool, j: usize) -> u32
     requires plan { ⌜ WellFormed (plan-of (now arcs) (now supplies)) ⌝ }
-    requires whole { ⌜ length (now supplies) ≤ length (now marks) ⌝ }
     requires arc { ⌜ j < length (now arcs) / arc-entries ⌝ }
-    ensures { λ r. ⌜ r ≡ end-marks (plan-of (now (arcs .entry)) (now (supplies .entry))) k upper (marked (now (marks .entry))) j ⌝ }
+    ensures { λ r. ⌜ r ≡ end-marks (plan-of (now (arcs .entry)) (now (supplies .entry))) k upper (holds set) j ⌝ }
 {
     let place = j * Arc::ENTRIES;
     let low = arcs[place + 2];
     let high = arcs[place + 3];
-    let from = end_marked(arcs, marks, place);
-    let to = end_marked(arcs, marks, place + 1);
+    let from = end_inside(arcs, set, place);
+    let to = end_inside(arcs, set, place + 1);
     let enters = and_not(to, from);
     let leaves = and_not(and_not(from, to), j == k);
     if upper {
@@ -69,13 +71,13 @@ fn mark_of(arcs: &[u32], supplies: &[i32], marks: &[u8], k: usize, upper: bool, 
 }
 
 // Writes the marks of the first n nodes: 1 inside the set, 0 not.
-pub fn mark_nodes(marks: &[u8], n: usize, buffer: &mut [u8])
-    requires { ⌜ (n ≤ length (now marks)) × (n ≤ length (now buffer)) ⌝ }
-    ensures { λ r. ⌜ Written (at (now (marks .entry))) n (now (buffer .entry)) (now (buffer .exit)) ⌝ }
+pub fn mark_nodes(set: u64, n: usize, buffer: &mut [u8])
+    requires { ⌜ (n ≤ word-bits) × (n ≤ length (now buffer)) ⌝ }
+    ensures { λ r. ⌜ Written (λ v. only (holds set v) 1) n (now (buffer .entry)) (now (buffer .exit)) ⌝ }
 {
     let mut v = 0;
     while v < n {
-        buffer[v] = marks[v];
+        buffer[v] = bit(set, v) as u8;
         v += 1;
     }
 }
@@ -85,29 +87,29 @@ pub fn mark_nodes(marks: &[u8], n: usize, buffer: &mut [u8])
 pub fn mark_arcs_for(
     arcs: &[u32],
     supplies: &[i32],
-    marks: &[u8],
+    set: u64,
     k: usize,
     upper: bool,
     buffer: &mut [u32],
 )
     requires plan { ⌜ WellFormed (plan-of (now arcs) (now supplies)) ⌝ }
-    requires whole { ⌜ (length (now supplies) ≤ length (now marks)) × (length (now arcs) / arc-entries ≤ length (now buffer)) ⌝ }
-    ensures { λ r. ⌜ Written (end-marks (plan-of (now (arcs .entry)) (now (supplies .entry))) k upper (marked (now (marks .entry)))) (length (now (arcs .entry)) / arc-entries) (now (buffer .entry)) (now (buffer .exit)) ⌝ }
+    requires whole { ⌜ length (now arcs) / arc-entries ≤ length (now buffer) ⌝ }
+    ensures { λ r. ⌜ Written (end-marks (plan-of (now (arcs .entry)) (now (supplies .entry))) k upper (holds set)) (length (now (arcs .entry)) / arc-entries) (now (buffer .entry)) (now (buffer .exit)) ⌝ }
 {
     let count = arcs.len() / Arc::ENTRIES;
     let mut j = 0;
     while j < count {
-        buffer[j] = mark_of(arcs, supplies, marks, k, upper, j);
+        buffer[j] = mark_of(arcs, supplies, set, k, upper, j);
         j += 1;
     }
 }
 
-// Writes the mark of each arc for a "no" by the marked set: 0 not cited, 1 its low, 2 its high.
-pub fn mark_arcs(arcs: &[u32], supplies: &[i32], marks: &[u8], buffer: &mut [u32])
+// Writes the mark of each arc for a "no" by a set: 0 not cited, 1 its low, 2 its high.
+pub fn mark_arcs(arcs: &[u32], supplies: &[i32], set: u64, buffer: &mut [u32])
     requires plan { ⌜ WellFormed (plan-of (now arcs) (now supplies)) ⌝ }
-    requires whole { ⌜ (length (now supplies) ≤ length (now marks)) × (length (now arcs) / arc-entries ≤ length (now buffer)) ⌝ }
-    ensures { λ r. ⌜ Written (no-marks (plan-of (now (arcs .entry)) (now (supplies .entry))) (marked (now (marks .entry)))) (length (now (arcs .entry)) / arc-entries) (now (buffer .entry)) (now (buffer .exit)) ⌝ }
+    requires whole { ⌜ length (now arcs) / arc-entries ≤ length (now buffer) ⌝ }
+    ensures { λ r. ⌜ Written (no-marks (plan-of (now (arcs .entry)) (now (supplies .entry))) (holds set)) (length (now (arcs .entry)) / arc-entries) (now (buffer .entry)) (now (buffer .exit)) ⌝ }
 {
     let no_arc = arcs.len() / Arc::ENTRIES;
-    mark_arcs_for(arcs, supplies, marks, no_arc, false, buffer);
+    mark_arcs_for(arcs, supplies, set, no_arc, false, buffer);
 }

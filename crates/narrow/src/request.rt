@@ -29,18 +29,17 @@ fn write_ends(
     rooms: &mut [u32],
     over: &mut [u32],
     under: &mut [u32],
-    marks: &mut [u8],
 )
-    requires ready { ⌜ ReadyDesk (now arcs) (now supplies) (now rooms) (now over) (now under) (now marks) ⌝ }
+    requires ready { ⌜ ReadyDesk (now arcs) (now supplies) (now rooms) (now over) (now under) ⌝ }
     requires whole { ⌜ length (now arcs) / arc-entries ≤ length (now ends) ⌝ }
     ensures ends { λ r. ⌜ ((k : ℕ) → k < length (now (arcs .entry)) / arc-entries → NarrowedEnd (plan-of (now (arcs .entry)) (now (supplies .entry))) k upper (at (now (ends .exit)) k)) ⌝ }
     ensures past { λ r. ⌜ ((i : ℕ) → length (now (arcs .entry)) / arc-entries ≤ i → at (now (ends .exit)) i ≡ at (now (ends .entry)) i) ⌝ }
-    ensures ready { λ r. ⌜ ReadyDesk (now (arcs .entry)) (now (supplies .entry)) (now (rooms .exit)) (now (over .exit)) (now (under .exit)) (now (marks .exit)) ⌝ }
+    ensures ready { λ r. ⌜ ReadyDesk (now (arcs .entry)) (now (supplies .entry)) (now (rooms .exit)) (now (over .exit)) (now (under .exit)) ⌝ }
 {
     let count = arcs.len() / Arc::ENTRIES;
     let mut k = 0;
     while k < count {
-        ends[k] = end_for(arcs, supplies, k, upper, rooms, over, under, marks);
+        ends[k] = end_for(arcs, supplies, k, upper, rooms, over, under);
         k += 1;
     }
 }
@@ -54,18 +53,18 @@ fn work_out_on(
     rooms: &mut [u32],
     over: &mut [u32],
     under: &mut [u32],
-    marks: &mut [u8],
 ) -> Asked
-    requires desk { ⌜ EmptyDesk (now arcs) (now supplies) (now rooms) (now over) (now under) (now marks) ⌝ }
+    requires desk { ⌜ EmptyDesk (now arcs) (now supplies) (now rooms) (now over) (now under) ⌝ }
     requires whole { ⌜ (length (now arcs) / arc-entries ≤ length (now lows)) × (length (now arcs) / arc-entries ≤ length (now highs)) ⌝ }
     ensures { λ r. ⌜ Told (plan-of (now (arcs .entry)) (now (supplies .entry))) (now (lows .entry)) (now (highs .entry)) (now (lows .exit)) (now (highs .exit)) r ⌝ }
 {
-    let asked = ask(arcs, supplies, rooms, over, under, marks);
+    let outcome = ask(arcs, supplies, rooms, over, under);
+    let asked = outcome.asked;
     let Asked::Balances = asked else {
         return asked;
     };
-    write_ends(arcs, supplies, false, lows, rooms, over, under, marks);
-    write_ends(arcs, supplies, true, highs, rooms, over, under, marks);
+    write_ends(arcs, supplies, false, lows, rooms, over, under);
+    write_ends(arcs, supplies, true, highs, rooms, over, under);
     Asked::Balances
 }
 
@@ -78,7 +77,6 @@ fn work_out(arcs: &[u32], supplies: &[i32], lows: &mut [u32], highs: &mut [u32])
     let mut rooms = [0u32; Rooms::CELLS];
     let mut over = [0u32; Plan::MOST_NODES];
     let mut under = [0u32; Plan::MOST_NODES];
-    let mut marks = [0u8; Plan::MOST_NODES];
     work_out_on(
         arcs,
         supplies,
@@ -87,7 +85,6 @@ fn work_out(arcs: &[u32], supplies: &[i32], lows: &mut [u32], highs: &mut [u32])
         &mut rooms,
         &mut over,
         &mut under,
-        &mut marks,
     )
 }
 

@@ -29,6 +29,12 @@ descend {A} {Done} size turn a = go (size a) a (le-refl (size a))
     go zero a l = ⊎-elim (λ d. (a, d)) (λ m. absurd (omega (arith, m .1))) (turn a)
     go (suc n) a l = ⊎-elim (λ d. (a, d)) (λ m. go n (m .0) (omega (arith, m .1))) (turn a)
 
+-- two tests are equal where each passes if the other does
+pub same-truth : (s t : Bool) → (s ≡ true → t ≡ true) → (t ≡ true → s ≡ true) → s ≡ t
+same-truth true t to back = sym (to refl)
+same-truth false true to back = back refl
+same-truth false false to back = refl
+
 -- what is true of a test whether two numbers are equal, where they are and where they are not
 pub eqb-cases : (C : Bool → Type 0) (i k : ℕ) → (i ≡ k → C true) → ((i ≡ k → ⊥) → C false) → C (eqb i k)
 eqb-cases C i k same other = by-cases (ℕ-discrete i k)

@@ -6,7 +6,6 @@ use across::raise::rebalance;
 ghost use mathlib.Core.Path.{_≡_};
 ghost use mathlib.Core.Bool.{cond, false};
 ghost use Prim.Native.Nat.{ℕ, _+_, _-_, _≤_};
-ghost use lib.ListN.{length};
 ghost use Rattle.rooms.specs.Room.{at, seen, Lent};
 ghost use Rattle.plan.specs.Plan.{Plan};
 ghost use Rattle.plan.specs.Flow.{held};
@@ -43,17 +42,15 @@ pub fn end_of(
     b: usize,
     low: u32,
     high: u32,
-    marks: &mut [u8],
 ) -> u32
     requires lent { ⌜ Lent n (now rooms) (now over) (now under) ⌝ }
-    requires marks { ⌜ n ≤ length (now marks) ⌝ }
     requires stands { ⌜ ((p : Plan) × ((k : ℕ) × Standing p k n a b low high (seen (now rooms) false) (at (now over)) (at (now under)))) ⌝ }
     ensures { λ r. ⌜ ((p : Plan) (k : ℕ) → Standing p k n a b low high (seen (now (rooms .entry)) false) (at (now (over .entry))) (at (now (under .entry))) → NarrowedEnd p k upper r × Ready p (seen (now (rooms .exit)) false) (at (now (over .exit))) (at (now (under .exit)))) ⌝ }
 {
     if a == b {
         return either(upper, low, high);
     }
-    let free = measure(rooms, upper, over, under, n, a, b, high - low, marks);
+    let free = measure(rooms, upper, over, under, n, a, b, high - low);
     end_at(upper, low, high, free)
 }
 
@@ -68,10 +65,8 @@ pub fn hold_at(
     low: u32,
     high: u32,
     count: u32,
-    marks: &mut [u8],
 )
     requires lent { ⌜ Lent n (now rooms) (now over) (now under) ⌝ }
-    requires marks { ⌜ n ≤ length (now marks) ⌝ }
     requires stands { ⌜ ((p : Plan) × ((k : ℕ) × (Standing p k n a b low high (seen (now rooms) false) (at (now over)) (at (now under)) × Possible p k count))) ⌝ }
     ensures { λ r. ⌜ ((p : Plan) (k : ℕ) → Standing p k n a b low high (seen (now (rooms .entry)) false) (at (now (over .entry))) (at (now (under .entry))) → Possible p k count → Ready (held p k count) (seen (now (rooms .exit)) false) (at (now (over .exit))) (at (now (under .exit)))) ⌝ }
 {
@@ -79,5 +74,5 @@ pub fn hold_at(
         return;
     }
     hold(rooms, over, under, n, a, b, high - count, count - low);
-    rebalance(rooms, false, over, under, n, marks);
+    rebalance(rooms, false, over, under, n);
 }

@@ -18,27 +18,15 @@ pub fn end_for(
     rooms: &mut [u32],
     over: &mut [u32],
     under: &mut [u32],
-    marks: &mut [u8],
 ) -> u32
-    requires ready { ⌜ ReadyDesk (now arcs) (now supplies) (now rooms) (now over) (now under) (now marks) ⌝ }
+    requires ready { ⌜ ReadyDesk (now arcs) (now supplies) (now rooms) (now over) (now under) ⌝ }
     requires arc { ⌜ k < length (now arcs) / arc-entries ⌝ }
     ensures end { λ r. ⌜ NarrowedEnd (plan-of (now (arcs .entry)) (now (supplies .entry))) k upper r ⌝ }
-    ensures ready { λ r. ⌜ ReadyDesk (now (arcs .entry)) (now (supplies .entry)) (now (rooms .exit)) (now (over .exit)) (now (under .exit)) (now (marks .exit)) ⌝ }
+    ensures ready { λ r. ⌜ ReadyDesk (now (arcs .entry)) (now (supplies .entry)) (now (rooms .exit)) (now (over .exit)) (now (under .exit)) ⌝ }
 {
     let arc = arc_at(arcs, k);
     let n = supplies.len();
     let from = arc.from as usize;
     let to = arc.to as usize;
-    end_of(
-        rooms,
-        upper,
-        over,
-        under,
-        n,
-        from,
-        to,
-        arc.low,
-        arc.high,
-        marks,
-    )
+    end_of(rooms, upper, over, under, n, from, to, arc.low, arc.high)
 }

@@ -1,2 +1,3 @@
 mod SearchLog
 mod SearchLoop
+mod Unique

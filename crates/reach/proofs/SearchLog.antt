@@ -56,12 +56,16 @@ module _ {n : ℕ} {room : ℕ → ℕ → ℕ} {over : ℕ → ℕ} {u v : ℕ}
           (λ later. let (i, sooner, e, step) = l .found j (omega arith) inside in
           c .closed (order i) (order j) (l .node i (omega arith)) (l .node j inside) (below m i (omega arith) (omega arith)) step)
 
+-- y is put into a set
+pub record PutIn (S S′ : ℕ → Bool) (y : ℕ) : Type 0 where
+  pub inside : S′ y ≡ true
+  pub others : (z : ℕ) → (z ≡ y → ⊥) → S′ z ≡ S z
+
 -- a node outside is put in, and at the end of the order
 pub record Added (n : ℕ) (S S′ : ℕ → Bool) (order order′ : ℕ → ℕ) (count y : ℕ) : Type 0 where
   pub node : y < n
   pub outside : S y ≡ false
-  pub inside : S′ y ≡ true
-  pub others : (z : ℕ) → (z ≡ y → ⊥) → S′ z ≡ S z
+  pub put : PutIn S S′ y
   pub before : (j : ℕ) → j < count → order′ j ≡ order j
   pub last : order′ count ≡ y
 
@@ -79,14 +83,14 @@ module _ {n : ℕ} {room : ℕ → ℕ → ℕ} {over : ℕ → ℕ} {u v : ℕ}
     starts-first = first;
     count-fits = omega (arith, log-short l y (a .node) (a .outside));
     node = below-more _ count (λ j h. rw (a .before j h) (l .node j h)) (rw (a .last) (a .node));
-    inside = below-more _ count (λ j h. rw (a .before j h, a .others (order j) (other j h)) (l .inside j h)) (rw (a .last) (a .inside));
+    inside = below-more _ count (λ j h. rw (a .before j h, a .put .others (order j) (other j h)) (l .inside j h)) (rw (a .last) (a .put .inside));
     once = λ i j before h. below-more (λ j. (i : ℕ) → i < j → order′ i ≡ order′ j → ⊥) count
         (λ j h i before e. l .once i j before h (sym (a .before i (omega arith)) ∙ e ∙ a .before j h))
         (λ i before e. other i before (sym (a .before i before) ∙ e ∙ a .last))
         j h i before;
     all = λ x node within. by-cases (ℕ-discrete x y)
         (λ e. (count, omega arith, a .last ∙ sym e))
-        (λ ne. let (j, h, e) = l .all x node (sym (a .others x ne) ∙ within) in (j, omega arith, a .before j h ∙ e));
+        (λ ne. let (j, h, e) = l .all x node (sym (a .put .others x ne) ∙ within) in (j, omega arith, a .before j h ∙ e));
     start = start;
     found = found;
   }
@@ -114,18 +118,17 @@ module _ {n : ℕ} {room : ℕ → ℕ → ℕ} {over : ℕ → ℕ} {u v : ℕ}
       latest late = (i, h, e ∙ sym (a .before i h), rw (a .before i h, a .last) step)
 
 -- a log of the first n nodes is one of the first n + 1, where the next node is outside
-pub log-wider : {n : ℕ} {room : ℕ → ℕ → ℕ} {over : ℕ → ℕ} {u v : ℕ} {S S′ : ℕ → Bool} {order finder : ℕ → ℕ} {starts count : ℕ}
-    → Log n room over u v S order finder starts count → S′ n ≡ false → ((z : ℕ) → (z ≡ n → ⊥) → S′ z ≡ S z)
-    → Log (n + 1) room over u v S′ order finder starts count
-log-wider {n} {order = order} l outside others = record {
+pub log-wider : {n : ℕ} {room : ℕ → ℕ → ℕ} {over : ℕ → ℕ} {u v : ℕ} {S : ℕ → Bool} {order finder : ℕ → ℕ} {starts count : ℕ}
+    → Log n room over u v S order finder starts count → S n ≡ false → Log (n + 1) room over u v S order finder starts count
+log-wider {n} l outside = record {
   starts-first = l .starts-first;
   count-fits = omega (arith, l .count-fits);
   node = λ j h. omega (arith, l .node j h);
-  inside = λ j h. others (order j) (λ e. omega (arith, l .node j h)) ∙ l .inside j h;
+  inside = l .inside;
   once = l .once;
   all = λ x node within. by-cases (ℕ-discrete x n)
       (λ e. absurd (false≢true (sym outside ∙ (rw e at within))))
-      (λ ne. l .all x (omega arith) (sym (others x ne) ∙ within));
+      (λ ne. l .all x (omega arith) within);
   start = l .start;
   found = l .found;
 }

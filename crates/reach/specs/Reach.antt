@@ -3,9 +3,6 @@
 use Prim.Native.Nat.{ℕ, _≤_, _<_}
 use mathlib.Core.Path.{_≡_}
 use mathlib.Core.Bool.{Bool, true}
-use mathlib.Core.List.{List}
-use lib.Dec.{eqb}
-use Rattle.rooms.specs.Room.{at}
 
 -- there is room to go from x to y, and the step is not shut
 pub record Step (room : ℕ → ℕ → ℕ) (u v x y : ℕ) : Type 0 where
@@ -25,10 +22,6 @@ pub record Reach (n : ℕ) (room : ℕ → ℕ → ℕ) (over : ℕ → ℕ) (u 
   pub holds : Holds n over S
   pub closed : Closed n room u v S
   pub least : (R : ℕ → Bool) → Holds n over R → Closed n room u v R → (x : ℕ) → x < n → S x ≡ true → R x ≡ true
-
--- the set that marks stand for: 1 inside
-abbrev pub marked : List ℕ → ℕ → Bool
-marked marks x = eqb (at marks x) 1
 
 -- how the reach was found: first the nodes with something over, then each new node with the node that a step led from
 pub record Log (n : ℕ) (room : ℕ → ℕ → ℕ) (over : ℕ → ℕ) (u v : ℕ) (S : ℕ → Bool) (order finder : ℕ → ℕ) (starts count : ℕ) : Type 0 where

@@ -1,19 +1,26 @@
 // The reach search: breadth first from the nodes that have something over, through the rooms, with one
-// direct step shut. The queue is the log: first the starts, then each new node with its finder. It uses
-// `rooms`. Internal: its functions have `requires`.
+// direct step shut. The queue is the log: first the starts, then each new node with its finder. The reached
+// nodes are one word. It uses `rooms`, and `words` for that set. Internal: its functions have `requires`.
 use rooms::place;
+use words::below;
+use words::but;
+use words::either;
+use words::one;
+use words::take_first;
 ghost use mathlib.Core.Path.{_≡_};
 ghost use mathlib.Core.Bool.{true, false};
 ghost use Prim.Native.Nat.{ℕ, _*_, _≤_, _<_};
 ghost use lib.ListN.{length};
+ghost use Rattle.words.specs.Word.{holds};
 ghost use Rattle.rooms.specs.Room.{side, at, seen};
-ghost use Rattle.reach.specs.Reach.{Step, Holds, Log, marked};
-ghost use Rattle.reach.specs.Searched.{Desk, Searched};
+ghost use Rattle.reach.specs.Reach.{Step, Holds, Log};
+ghost use Rattle.reach.specs.Searched.{Desk, Within, Searched};
 
-// How many nodes a search started from, and how many it found in all.
+// How many nodes a search started from, how many it found in all, and the set of these.
 pub struct Found {
     pub starts: usize,
     pub count: usize,
+    pub reached: u64,
 }
 
 // There is room to go from x to y, and the step is not the one that is shut.
@@ -33,33 +40,36 @@ fn leads(rooms: &[u32], back: bool, u: usize, v: usize, x: usize, y: usize) -> b
     y != v
 }
 
-// Marks the nodes that have something over, clears the marks of the others, and writes the marked ones
-// down in order; returns how many there are. They are a log that has found nothing yet.
-fn begin(over: &[u32], n: usize, marks: &mut [u8], order: &mut [usize]) -> usize
+// The nodes that have something over: their set, and written down in order. They are a log that has found
+// nothing yet.
+fn begin(over: &[u32], n: usize, order: &mut [u8]) -> Found
+    requires few { ⌜ n ≤ side ⌝ }
     requires over { ⌜ n ≤ length (now over) ⌝ }
-    requires marks { ⌜ n ≤ length (now marks) ⌝ }
     requires order { ⌜ n ≤ length (now order) ⌝ }
-    ensures log { λ r. ⌜ ((room : ℕ → ℕ → ℕ) (u v : ℕ) (finder : ℕ → ℕ) → Log n room (at (now (over .entry))) u v (marked (now (marks .exit))) (at (now (order .exit))) finder r r) ⌝ }
-    ensures holds { λ r. ⌜ Holds n (at (now (over .entry))) (marked (now (marks .exit))) ⌝ }
-    ensures plain { λ r. ⌜ ((x : ℕ) → x < n → at (now (marks .exit)) x ≤ 1) ⌝ }
+    ensures log { λ r. ⌜ ((room : ℕ → ℕ → ℕ) (u v : ℕ) (finder : ℕ → ℕ) → Log n room (at (now (over .entry))) u v (holds (r .reached)) (at (now (order .exit))) finder (r .starts) (r .count)) ⌝ }
+    ensures holds { λ r. ⌜ Holds n (at (now (over .entry))) (holds (r .reached)) ⌝ }
+    ensures within { λ r. ⌜ Within n (holds (r .reached)) ⌝ }
 {
+    let mut reached: u64 = 0;
     let mut count = 0;
     let mut x = 0;
     while x < n {
         if 0 < over[x] {
-            marks[x] = 1;
-            order[count] = x;
+            reached = either(one(x), reached);
+            order[count] = x as u8;
             count += 1;
-        } else {
-            marks[x] = 0;
         }
         x += 1;
     }
-    count
+    Found {
+        starts: count,
+        count,
+        reached,
+    }
 }
 
-// Looks at every step from the node at `head` in the log: marks each head of a step that is not marked
-// yet, and adds it to the log. Returns how many the log has then; what it had before stays.
+// Looks at every step from the node at `head` in the log to a node that is not reached yet: the node that it
+// leads to is reached now, and added to the log. What the log had before stays.
 fn look_at(
     rooms: &[u32],
     back: bool,
@@ -67,41 +77,46 @@ fn look_at(
     u: usize,
     v: usize,
     head: usize,
-    marks: &mut [u8],
-    order: &mut [usize],
-    finder: &mut [usize],
-    known: usize,
-) -> usize
+    order: &mut [u8],
+    finder: &mut [u8],
+    found: Found,
+) -> Found
     requires few { ⌜ n ≤ side ⌝ }
     requires whole { ⌜ side * side ≤ length (now rooms) ⌝ }
-    requires desk { ⌜ Desk n (now marks) (now order) (now finder) ⌝ }
-    requires turn { ⌜ head < known ⌝ }
-    requires log { ⌜ ((over : ℕ → ℕ) × ((starts : ℕ) × Log n (seen (now rooms) back) over u v (marked (now marks)) (at (now order)) (at (now finder)) starts known)) ⌝ }
-    requires plain { ⌜ ((y : ℕ) → y < n → at (now marks) y ≤ 1) ⌝ }
-    ensures log { λ r. ⌜ ((over : ℕ → ℕ) (starts : ℕ) → Log n (seen (now (rooms .entry)) back) over u v (marked (now (marks .entry))) (at (now (order .entry))) (at (now (finder .entry))) starts known → Log n (seen (now (rooms .entry)) back) over u v (marked (now (marks .exit))) (at (now (order .exit))) (at (now (finder .exit))) starts r) ⌝ }
-    ensures before { λ r. ⌜ ((j : ℕ) → j < known → at (now (order .exit)) j ≡ at (now (order .entry)) j) ⌝ }
-    ensures marks { λ r. ⌜ ((y : ℕ) → y < n → (at (now (marks .entry)) y ≤ at (now (marks .exit)) y) × (at (now (marks .exit)) y ≤ 1)) ⌝ }
-    ensures row { λ r. ⌜ ((y : ℕ) → y < n → Step (seen (now (rooms .entry)) back) u v (at (now (order .entry)) head) y → marked (now (marks .exit)) y ≡ true) ⌝ }
+    requires desk { ⌜ Desk n (now order) (now finder) ⌝ }
+    requires turn { ⌜ head < found .count ⌝ }
+    requires log { ⌜ ((over : ℕ → ℕ) × Log n (seen (now rooms) back) over u v (holds (found .reached)) (at (now order)) (at (now finder)) (found .starts) (found .count)) ⌝ }
+    ensures log { λ r. ⌜ ((over : ℕ → ℕ) → Log n (seen (now (rooms .entry)) back) over u v (holds (found .reached)) (at (now (order .entry))) (at (now (finder .entry))) (found .starts) (found .count) → Log n (seen (now (rooms .entry)) back) over u v (holds (r .reached)) (at (now (order .exit))) (at (now (finder .exit))) (r .starts) (r .count)) ⌝ }
+    ensures before { λ r. ⌜ ((j : ℕ) → j < found .count → at (now (order .exit)) j ≡ at (now (order .entry)) j) ⌝ }
+    ensures grown { λ r. ⌜ ((y : ℕ) → holds (found .reached) y ≡ true → holds (r .reached) y ≡ true) ⌝ }
+    ensures within { λ r. ⌜ (Within n (holds (found .reached)) → Within n (holds (r .reached))) ⌝ }
+    ensures row { λ r. ⌜ ((y : ℕ) → y < n → Step (seen (now (rooms .entry)) back) u v (at (now (order .entry)) head) y → holds (r .reached) y ≡ true) ⌝ }
+    ensures starts { λ r. ⌜ r .starts ≡ found .starts ⌝ }
 {
     let x = order[head];
-    let mut count = known;
-    let mut y = 0;
-    while y < n {
-        if marks[y] == 0 {
-            if leads(rooms, back, u, v, x, y) {
-                marks[y] = 1;
-                order[count] = y;
-                finder[count] = x;
-                count += 1;
-            }
+    let mut count = found.count;
+    let mut reached = found.reached;
+    let mut left = but(below(n), reached);
+    while 0 < left {
+        let split = take_first(left);
+        let y = split.first;
+        left = split.rest;
+        if leads(rooms, back, u, v, x as usize, y) {
+            reached = either(one(y), reached);
+            order[count] = y as u8;
+            finder[count] = x;
+            count += 1;
         }
-        y += 1;
     }
-    count
+    Found {
+        starts: found.starts,
+        count,
+        reached,
+    }
 }
 
-// Marks the reach of the nodes that have something over, and writes down how each was found. The
-// direct step from u to v is shut; with u at n or beyond, none is.
+// The reach of the nodes that have something over, and how each of its nodes was found. The direct step
+// from u to v is shut; with u at n or beyond, none is.
 pub fn search(
     rooms: &[u32],
     back: bool,
@@ -109,26 +124,24 @@ pub fn search(
     n: usize,
     u: usize,
     v: usize,
-    marks: &mut [u8],
-    order: &mut [usize],
-    finder: &mut [usize],
+    order: &mut [u8],
+    finder: &mut [u8],
 ) -> Found
     requires few { ⌜ n ≤ side ⌝ }
     requires whole { ⌜ side * side ≤ length (now rooms) ⌝ }
     requires over { ⌜ n ≤ length (now over) ⌝ }
-    requires desk { ⌜ Desk n (now marks) (now order) (now finder) ⌝ }
-    ensures { λ r. ⌜ Searched n (seen (now (rooms .entry)) back) (at (now (over .entry))) u v (now (marks .exit)) (now (order .exit)) (now (finder .exit)) (r .starts) (r .count) ⌝ }
+    requires desk { ⌜ Desk n (now order) (now finder) ⌝ }
+    ensures { λ r. ⌜ Searched n (seen (now (rooms .entry)) back) (at (now (over .entry))) u v (r .reached) (now (order .exit)) (now (finder .exit)) (r .starts) (r .count) ⌝ }
 {
-    let starts = begin(over, n, marks, order);
-    let mut count = starts;
+    let mut found = begin(over, n, order);
     let mut head = 0;
-    while head < count {
+    while head < found.count {
         // No row can add a node to a log that has them all.
-        if count == n {
+        if found.count == n {
             break;
         }
-        count = look_at(rooms, back, n, u, v, head, marks, order, finder, count);
+        found = look_at(rooms, back, n, u, v, head, order, finder, found);
         head += 1;
     }
-    Found { starts, count }
+    found
 }

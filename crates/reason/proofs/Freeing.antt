@@ -4,16 +4,14 @@ use mathlib.Core.Path.{_≡_, subst}
 use mathlib.Core.Bool.{Bool, true, false, cond}
 use mathlib.Core.List.{List}
 use native.Mathlib.Omega.{arith}
-use Rattle.rooms.specs.Room.{at, seen}
-use Rattle.reach.specs.Reach.{marked}
+use Rattle.numbers.specs.Sums.{only}
+use Rattle.rooms.specs.Room.{seen}
 use Rattle.across.specs.Raise.{Raised}
-use Rattle.plan.specs.Plan.{Plan, WellFormed}
+use Rattle.plan.specs.Plan.{Plan, Set, WellFormed}
 use Rattle.plan.specs.Reason.{own-end, NarrowedEnd, end-marks}
 use Rattle.stand.specs.State.{Ready}
 use Rattle.lists.specs.Written.{Written}
 use Rattle.one_arc.proofs.OneArc.{own-standing, standing-loop, facing-end, facing-reason}
-use Rattle.lists.proofs.Writing.{written-alike}
-use Rattle.marks.proofs.Marking.{plain-mark}
 use Rattle.reason.specs.Answer.{Cited}
 use Rattle.reason.specs.Freed.{Freed}
 
@@ -24,37 +22,35 @@ all-free fits true = omega arith
 
 module _ {p : Plan} {k : ℕ} (w : WellFormed p) (l : k < p .arcs) where
   -- all of a self-loop's width is free
-  pub loop-freed : {room : ℕ → ℕ → ℕ} {over under : ℕ → ℕ} {marks : List ℕ} → Ready p room over under → p .to k ≡ p .from k → (upper : Bool)
-      → Freed p k upper (p .high k - p .low k) marks
+  pub loop-freed : {room : ℕ → ℕ → ℕ} {over under : ℕ → ℕ} {S : Set} → Ready p room over under → p .to k ≡ p .from k → (upper : Bool)
+      → Freed p k upper (p .high k - p .low k) S
   loop-freed y loop upper = record {
     fits = omega arith;
     end = rw (all-free (w .uncrossed k l) upper) (standing-loop (own-standing w l y) upper loop);
     reason = λ less. absurd (omega arith);
-    marks-plain = λ less. absurd (omega arith);
   }
 
-  pub raised-freed : (rooms : List ℕ) {room′ : ℕ → ℕ → ℕ} {over under over′ under′ : ℕ → ℕ} {free : ℕ} {marks : List ℕ} → Ready p (seen rooms false) over under
-      → (upper : Bool) → Raised (p .nodes) (seen rooms upper) room′ over′ under′ (p .from k) (p .to k) (p .high k - p .low k) free marks
-      → Freed p k upper free marks
+  pub raised-freed : (rooms : List ℕ) {room′ : ℕ → ℕ → ℕ} {over under over′ under′ : ℕ → ℕ} {free : ℕ} {S : Set} → Ready p (seen rooms false) over under
+      → (upper : Bool) → Raised (p .nodes) (seen rooms upper) room′ over′ under′ (p .from k) (p .to k) (p .high k - p .low k) free S
+      → Freed p k upper free S
   raised-freed rooms y upper r = record {
     fits = r .measure .fits;
     end = facing-end rooms (own-standing w l y) upper (r .measure);
     reason = facing-reason rooms (own-standing w l y) upper (r .measure);
-    marks-plain = r .marks-plain;
   }
 
-  module _ {upper : Bool} {free : ℕ} {marks : List ℕ} (f : Freed p k upper free marks) where
+  module _ {upper : Bool} {free : ℕ} {S : Set} (f : Freed p k upper free S) where
     pub freed-stands : free ≡ p .high k - p .low k → NarrowedEnd p k upper (own-end p k upper)
     freed-stands all = subst (λ x. NarrowedEnd p k upper x) (rw all (all-free (w .uncrossed k l) upper)) (f .end)
 
-    pub freed-cited : {arcs nodes arcs′ nodes′ : List ℕ} → (free ≡ p .high k - p .low k → ⊥) → Written (at marks) (p .nodes) nodes nodes′
-        → Written (end-marks p k upper (marked marks)) (p .arcs) arcs arcs′
+    pub freed-cited : {arcs nodes arcs′ nodes′ : List ℕ} → (free ≡ p .high k - p .low k → ⊥) → Written (λ v. only (S v) 1) (p .nodes) nodes nodes′
+        → Written (end-marks p k upper S) (p .arcs) arcs arcs′
         → Cited p k upper (cond upper (p .low k + free) (p .high k - free)) arcs nodes arcs′ nodes′
     freed-cited not-all inside cited =
         let less : free < p .high k - p .low k = omega (arith, f .fits, not-all) in
         record {
-          set = marked marks;
+          set = S;
           reason = f .reason less;
-          node-marks = written-alike (λ v lv. plain-mark (at marks v) (f .marks-plain less v lv)) inside;
+          node-marks = inside;
           arc-marks = cited;
         }

@@ -1,5 +1,6 @@
 // The request of document 01 for the reason of one end of one arc, for every input.
 use crate::Answer;
+use across::raise::Passage;
 use across::raise::raise;
 use marks::mark_arcs_for;
 use marks::mark_nodes;
@@ -17,6 +18,7 @@ ghost use mathlib.Core.Bool.{_||_};
 ghost use Prim.Native.Nat.{_≤_, _<_, _/_};
 ghost use lib.Dec.{leb, ltb};
 ghost use lib.ListN.{length};
+ghost use Rattle.words.specs.Word.{holds};
 ghost use Rattle.plan.specs.Limits.{arc-entries};
 ghost use Rattle.plan.specs.Plan.{WellFormed, plan-of};
 ghost use Rattle.stand.specs.Desk.{EmptyDesk, ReadyDesk};
@@ -33,8 +35,9 @@ fn missing(m: usize, k: usize, end: u32) -> bool
     1 < end
 }
 
-// How much of the width of arc k is free for its low end, or with `upper` for its high end. The direct step
-// between its ends is shut: a step back along the arc does not let its end stand.
+// How much of the width of arc k is free for its low end, or with `upper` for its high end, and the set that is
+// in the way where that is not all of it. The direct step between its ends is shut: a step back along the arc
+// does not let its end stand.
 fn free_of(
     arcs: &[u32],
     supplies: &[i32],
@@ -43,11 +46,10 @@ fn free_of(
     rooms: &mut [u32],
     over: &mut [u32],
     under: &mut [u32],
-    marks: &mut [u8],
-) -> u32
-    requires ready { ⌜ ReadyDesk (now arcs) (now supplies) (now rooms) (now over) (now under) (now marks) ⌝ }
+) -> Passage
+    requires ready { ⌜ ReadyDesk (now arcs) (now supplies) (now rooms) (now over) (now under) ⌝ }
     requires arc { ⌜ k < length (now arcs) / arc-entries ⌝ }
-    ensures { λ r. ⌜ Freed (plan-of (now (arcs .entry)) (now (supplies .entry))) k upper r (now (marks .exit)) ⌝ }
+    ensures { λ r. ⌜ Freed (plan-of (now (arcs .entry)) (now (supplies .entry))) k upper (r .free) (holds (r .set)) ⌝ }
 {
     let arc = arc_at(arcs, k);
     let n = supplies.len();
@@ -55,9 +57,9 @@ fn free_of(
     let to = arc.to as usize;
     let width = arc.high - arc.low;
     if from == to {
-        return width;
+        return Passage::whole(width);
     }
-    raise(rooms, upper, over, under, n, from, to, width, marks)
+    raise(rooms, upper, over, under, n, from, to, width)
 }
 
 // Says whether the end of arc k stands, in a plan that stands ready; if it moved, marks the reason.
@@ -71,20 +73,20 @@ fn explain(
     rooms: &mut [u32],
     over: &mut [u32],
     under: &mut [u32],
-    marks: &mut [u8],
 ) -> Answer
-    requires ready { ⌜ ReadyDesk (now arcs) (now supplies) (now rooms) (now over) (now under) (now marks) ⌝ }
+    requires ready { ⌜ ReadyDesk (now arcs) (now supplies) (now rooms) (now over) (now under) ⌝ }
     requires arc { ⌜ k < length (now arcs) / arc-entries ⌝ }
     requires whole { ⌜ (length (now arcs) / arc-entries ≤ length (now «arc_buffer»)) × (length (now supplies) ≤ length (now «node_buffer»)) ⌝ }
     ensures { λ r. ⌜ Told (plan-of (now (arcs .entry)) (now (supplies .entry))) k upper (now («arc_buffer» .entry)) (now («node_buffer» .entry)) (now («arc_buffer» .exit)) (now («node_buffer» .exit)) r ⌝ }
 {
-    let free = free_of(arcs, supplies, k, upper, rooms, over, under, marks);
+    let passage = free_of(arcs, supplies, k, upper, rooms, over, under);
+    let free = passage.free;
     let arc = arc_at(arcs, k);
     if free == arc.high - arc.low {
         return Answer::Stands;
     }
-    mark_nodes(marks, supplies.len(), node_buffer);
-    mark_arcs_for(arcs, supplies, marks, k, upper, arc_buffer);
+    mark_nodes(passage.set, supplies.len(), node_buffer);
+    mark_arcs_for(arcs, supplies, passage.set, k, upper, arc_buffer);
     Answer::Moved(end_at(upper, arc.low, arc.high, free))
 }
 
@@ -99,14 +101,14 @@ fn work_out_on(
     rooms: &mut [u32],
     over: &mut [u32],
     under: &mut [u32],
-    marks: &mut [u8],
 ) -> Answer
-    requires desk { ⌜ EmptyDesk (now arcs) (now supplies) (now rooms) (now over) (now under) (now marks) ⌝ }
+    requires desk { ⌜ EmptyDesk (now arcs) (now supplies) (now rooms) (now over) (now under) ⌝ }
     requires arc { ⌜ k < length (now arcs) / arc-entries ⌝ }
     requires whole { ⌜ (length (now arcs) / arc-entries ≤ length (now «arc_buffer»)) × (length (now supplies) ≤ length (now «node_buffer»)) ⌝ }
     ensures { λ r. ⌜ Told (plan-of (now (arcs .entry)) (now (supplies .entry))) k upper (now («arc_buffer» .entry)) (now («node_buffer» .entry)) (now («arc_buffer» .exit)) (now («node_buffer» .exit)) r ⌝ }
 {
-    let asked = ask(arcs, supplies, rooms, over, under, marks);
+    let outcome = ask(arcs, supplies, rooms, over, under);
+    let asked = outcome.asked;
     let Asked::Balances = asked else {
         return Answer::to(asked);
     };
@@ -120,7 +122,6 @@ fn work_out_on(
         rooms,
         over,
         under,
-        marks,
     )
 }
 
@@ -141,7 +142,6 @@ fn work_out(
     let mut rooms = [0u32; Rooms::CELLS];
     let mut over = [0u32; Plan::MOST_NODES];
     let mut under = [0u32; Plan::MOST_NODES];
-    let mut marks = [0u8; Plan::MOST_NODES];
     work_out_on(
         arcs,
         supplies,
@@ -152,7 +152,6 @@ fn work_out(
         &mut rooms,
         &mut over,
         &mut under,
-        &mut marks,
     )
 }
 

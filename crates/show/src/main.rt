@@ -18,6 +18,7 @@ use plan::Verdict;
 use reading::payload::payload;
 use reading::read;
 use reason::request::reason;
+use words::has;
 use writing::write;
 
 // The first m counts.
@@ -186,8 +187,8 @@ fn show_third() {
 fn say_domain(word: u64) {
     let mut j = 0;
     while j < 64 {
-        if (word >> j) % 2 == 1 {
-            say::number(j);
+        if has(word, j) {
+            say::number(j as u64);
         }
         j += 1;
     }

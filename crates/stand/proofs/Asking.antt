@@ -3,36 +3,35 @@
 use Prim.Native.Nat.{ℕ, _<_}
 use mathlib.Core.Path.{_≡_, refl}
 use mathlib.Core.Bool.{Bool, true, false}
-use mathlib.Core.List.{List}
 use native.Mathlib.Omega.{arith}
 use lib.IntN.{pos}
 use Rattle.numbers.specs.Sums.{sum}
 use Rattle.numbers.proofs.Parts.{whole}
 use Rattle.numbers.proofs.Sums.{sum-member}
 use Rattle.rooms.specs.Room.{crossing, Small}
-use Rattle.reach.specs.Reach.{Closed, marked}
+use Rattle.reach.specs.Reach.{Closed}
 use Rattle.engine.specs.Settle as E
 use Rattle.engine.proofs.Sweeping.{kept-small}
 use Rattle.across.proofs.Raising.{crossing-closed, crossing-member}
 use Rattle.plan.specs.Plan.{Plan, Set, WellFormed}
+use Rattle.plan.specs.Shortage.{ShortBy}
 use Rattle.plan.proofs.Certificate.{Ledger, Settled, settled-shortage, settled-shortfall}
 use Rattle.stand.specs.State.{Represents, Ready}
-use Rattle.stand.specs.Ask.{Marked}
 use Rattle.stand.proofs.Standing.{kept-represents, even-in-all}
 
-module _ {p : Plan} (w : WellFormed p) {room room′ : ℕ → ℕ → ℕ} {over under over′ under′ : ℕ → ℕ} {v : ℕ} {marks : List ℕ}
-    (r : Represents p room over under) (s : E.Settled (p .nodes) room over under room′ over′ under′ (p .nodes) v marks) where
+module _ {p : Plan} (w : WellFormed p) {room room′ : ℕ → ℕ → ℕ} {over under over′ under′ : ℕ → ℕ} {v : ℕ} {S : Set}
+    (r : Represents p room over under) (s : E.Settled (p .nodes) room over under room′ over′ under′ (p .nodes) v S) where
   after : Represents p room′ over′ under′
   after = kept-represents r (s .kept)
 
   ledger : Ledger p (crossing (p .nodes) room′) over′ under′
   ledger = record { account = after .account }
 
-  settled : Settled p (crossing (p .nodes) room′) over′ under′ (marked marks)
+  settled : Settled p (crossing (p .nodes) room′) over′ under′ S
   settled = record {
     all-over = record { holds = s .reach .holds .holds };
     none-under = s .none-under;
-    closed = crossing-closed (p .nodes) room′ (marked marks) v (s .reach .closed);
+    closed = crossing-closed (p .nodes) room′ S v (s .reach .closed);
   }
 
   -- a set out of which no room leads is closed
@@ -43,15 +42,12 @@ module _ {p : Plan} (w : WellFormed p) {room room′ : ℕ → ℕ → ℕ} {ove
       by x y lx ly rx more true e = e
       by x y lx ly rx more false e = absurd (omega (arith, crossing-member (p .nodes) room′ R x y lx ly rx e))
 
-  pub asked-short : 0 < sum (p .nodes) over′ → Marked p (pos (sum (p .nodes) over′)) marks
+  pub asked-short : 0 < sum (p .nodes) over′ → ShortBy p (pos (sum (p .nodes) over′)) S
   asked-short more = record {
-    short = record {
-      shortage = settled-shortage p ledger (marked marks) settled
-          (λ R holds none. record { inside = s .reach .least R (record { holds = holds .holds }) (shut R none) });
-      value-is = settled-shortfall p ledger (marked marks) settled;
-      positive = omega whole;
-    };
-    marks-plain = s .marks-plain;
+    shortage = settled-shortage p ledger S settled
+        (λ R holds none. record { inside = s .reach .least R (record { holds = holds .holds }) (shut R none) });
+    value-is = settled-shortfall p ledger S settled;
+    positive = omega whole;
   }
 
   pub asked-ready : Small (p .nodes) room under → sum (p .nodes) over′ ≡ 0 → Ready p room′ over′ under′

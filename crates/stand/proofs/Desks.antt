@@ -5,12 +5,13 @@ use mathlib.Core.List.{List}
 use native.Mathlib.Omega.{arith}
 use lib.Dec.{lit≤}
 use lib.IntN.{ℤ}
-use lib.ListN.{length, replicate}
+use lib.ListN.{replicate}
 use Rattle.rooms.specs.Room.{at, SameLengths}
-use Rattle.engine.proofs.Sweeping.{lent-still, still-fits}
-use Rattle.plan.specs.Plan.{WellFormed, plan-of}
+use Rattle.engine.proofs.Sweeping.{lent-still}
+use Rattle.plan.specs.Plan.{Set, WellFormed, plan-of}
+use Rattle.plan.specs.Shortage.{ShortBy}
 use Rattle.stand.specs.Desk.{PlanDesk, EmptyDesk, ReadyDesk}
-use Rattle.stand.specs.Ask.{Marked, AskedOf}
+use Rattle.stand.specs.Ask.{AskedOf}
 use Rattle.stand.specs.declared.Asked.the-variants.{Balances, Lacks}
 
 -- a new array holds zeros
@@ -21,37 +22,32 @@ zeros (suc n) (suc i) = zeros n i
 
 module _ {arcs : List ℕ} {supplies : List ℤ} where
   -- a new desk is long enough for 64 nodes, and empty
-  pub new-desk : WellFormed (plan-of arcs supplies) → EmptyDesk arcs supplies (replicate 4096 0) (replicate 64 0) (replicate 64 0) (replicate 64 0)
+  pub new-desk : WellFormed (plan-of arcs supplies) → EmptyDesk arcs supplies (replicate 4096 0) (replicate 64 0) (replicate 64 0)
   new-desk w = record {
     desk = record {
       plan = w;
       lent = record { nodes-fit = w .nodes-fit; rooms-whole = lit≤ tt; over-whole = w .nodes-fit; under-whole = w .nodes-fit };
-      marks-fit = w .nodes-fit;
     };
     empty = λ i. (zeros 4096 i, zeros 64 i, zeros 64 i);
   }
 
-  module _ {rooms over under marks rooms′ over′ under′ marks′ : List ℕ} where
+  module _ {rooms over under rooms′ over′ under′ : List ℕ} where
     -- what keeps its lengths is still a desk
-    pub still-desk : SameLengths rooms over under rooms′ over′ under′ → length marks′ ≡ length marks
-        → PlanDesk arcs supplies rooms over under marks → PlanDesk arcs supplies rooms′ over′ under′ marks′
-    still-desk same marks-same d = record {
-      plan = d .plan;
-      lent = lent-still same (d .lent);
-      marks-fit = still-fits marks-same (d .marks-fit);
-    }
+    pub still-desk : SameLengths rooms over under rooms′ over′ under′
+        → PlanDesk arcs supplies rooms over under → PlanDesk arcs supplies rooms′ over′ under′
+    still-desk same d = record { plan = d .plan; lent = lent-still same (d .lent) }
 
   -- what was asked is one of the two
-  module _ {rooms over under marks : List ℕ} where
-    pub told-ready : ReadyDesk arcs supplies rooms over under marks → AskedOf arcs supplies rooms over under marks Balances
+  module _ {rooms over under : List ℕ} {S : Set} where
+    pub told-ready : ReadyDesk arcs supplies rooms over under → AskedOf arcs supplies rooms over under Balances S
     told-ready y = record {
       desk = y .desk;
       balances = λ e. y;
       lacks = λ value e. let clash : _≡_ {A = ℕ} 0 1 = cc in absurd (omega arith);
     }
 
-    pub told-short : {value : ℤ} → PlanDesk arcs supplies rooms over under marks → Marked (plan-of arcs supplies) value marks
-        → AskedOf arcs supplies rooms over under marks (Lacks value)
+    pub told-short : {value : ℤ} → PlanDesk arcs supplies rooms over under → ShortBy (plan-of arcs supplies) value S
+        → AskedOf arcs supplies rooms over under (Lacks value) S
     told-short {value = value} d m = record {
       desk = d;
       balances = λ e. let clash : _≡_ {A = ℕ} 0 1 = cc in absurd (omega arith);

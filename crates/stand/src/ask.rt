@@ -1,5 +1,6 @@
 // Asks a well-formed plan whether it can run: enters it, and moves what is over to what lacks. Internal.
 use crate::Asked;
+use crate::Outcome;
 use crate::build::build;
 use engine::settle::settle;
 ghost use mathlib.Core.Path.{_≡_};
@@ -7,6 +8,7 @@ ghost use Prim.Native.Nat.{_≤_};
 ghost use lib.IntN.{pos};
 ghost use lib.ListN.{length};
 ghost use Rattle.numbers.specs.Sums.{sum};
+ghost use Rattle.words.specs.Word.{holds};
 ghost use Rattle.rooms.specs.Room.{at};
 ghost use Rattle.plan.specs.Limits.{most-nodes};
 ghost use Rattle.stand.specs.Desk.{EmptyDesk};
@@ -27,25 +29,29 @@ fn total_of(numbers: &[u32], n: usize) -> i64
 }
 
 // Asks the plan. The rooms, over and under that are lent hold zeros; afterwards they are the plan's, in
-// balance, or the marks hold the shortage set.
+// balance, or the set that is returned is the shortage set.
 pub fn ask(
     arcs: &[u32],
     supplies: &[i32],
     rooms: &mut [u32],
     over: &mut [u32],
     under: &mut [u32],
-    marks: &mut [u8],
-) -> Asked
-    requires { ⌜ EmptyDesk (now arcs) (now supplies) (now rooms) (now over) (now under) (now marks) ⌝ }
-    ensures { λ r. ⌜ AskedOf (now (arcs .entry)) (now (supplies .entry)) (now (rooms .exit)) (now (over .exit)) (now (under .exit)) (now (marks .exit)) r ⌝ }
+) -> Outcome
+    requires { ⌜ EmptyDesk (now arcs) (now supplies) (now rooms) (now over) (now under) ⌝ }
+    ensures { λ r. ⌜ AskedOf (now (arcs .entry)) (now (supplies .entry)) (now (rooms .exit)) (now (over .exit)) (now (under .exit)) (r .asked) (holds (r .set)) ⌝ }
 {
     let n = supplies.len();
     build(arcs, supplies, rooms, over, under);
-    settle(rooms, false, over, under, n, n, n, marks);
+    let set = settle(rooms, false, over, under, n, n, n);
     let total = total_of(over, n);
     if total == 0 {
-        Asked::Balances
-    } else {
-        Asked::Lacks(total)
+        return Outcome {
+            asked: Asked::Balances,
+            set,
+        };
+    }
+    Outcome {
+        asked: Asked::Lacks(total),
+        set,
     }
 }

@@ -3,4 +3,5 @@
 pub mod countings;
 pub mod files;
 pub mod networks;
+pub mod stations;
 pub mod worked;

@@ -12,23 +12,23 @@ cast-to c = search needs
 cast-new : tie.Need-cast-new
 cast-new c = search needs
 
-mul-times : tie.Need-mul-times
-mul-times c = search needs
+mul-bit : tie.Need-mul-bit
+mul-bit c = search needs
 
-shared-slice-read-times : tie.Need-shared-slice-read-times
-shared-slice-read-times c = search needs
+shared-slice-read-bit : tie.Need-shared-slice-read-bit
+shared-slice-read-bit c = search needs
 
-cast-times : tie.Need-cast-times
-cast-times c = search needs
+bit-requires : tie.Need-bit-requires
+bit-requires c κs = search needs
 
-times-requires : tie.Need-times-requires
-times-requires c κs = search needs
+cast-new-2 : tie.Need-cast-new-2
+cast-new-2 c = search needs
 
 new-requires : tie.Need-new-requires
 new-requires c κs = search needs
 
 returns : tie.Need-returns
-returns c = rw (c .new .ensures, c .before .times .ensures)
+returns c = rw (c .new .ensures, c .before .bit .ensures .0)
 
 pub pair-arc-spec : {M : Type 1} → statement M
 pair-arc-spec =
@@ -37,9 +37,9 @@ pair-arc-spec =
     add-to
     cast-to
     cast-new
-    mul-times
-    shared-slice-read-times
-    cast-times
-    times-requires
+    mul-bit
+    shared-slice-read-bit
+    bit-requires
+    cast-new-2
     new-requires
     returns)

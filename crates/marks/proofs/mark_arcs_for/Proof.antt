@@ -4,7 +4,7 @@ use mathlib.Core.Path.{_≡_}
 use lib.ListN.{length}
 use native.Mathlib.Omega.{arith}
 use borrow.Author.Needs.{needs}
-use Rattle.reach.specs.Reach.{marked}
+use Rattle.words.specs.Word.{holds}
 use Rattle.plan.specs.Reason.{end-marks}
 use Rattle.plan.specs.Plan.{plan-of}
 use Rattle.plan.specs.Limits.{arc-entries}
@@ -15,12 +15,12 @@ use Rattle.marks.proofs.mark_arcs_for.Statement.{statement}
 use Rattle.marks.proofs.mark_arcs_for.Tie as tie
 
 abbrev Inv-loop : tie.InvT-loop
-Inv-loop arcs supplies marks k upper buffer₀ count j₀ buffer j =
+Inv-loop arcs supplies set k upper buffer₀ count j₀ buffer j =
     (j ≤ length arcs / arc-entries)
-    × EntriesWritten 0 (end-marks (plan-of arcs supplies) k upper (marked marks)) j buffer₀ buffer
+    × EntriesWritten 0 (end-marks (plan-of arcs supplies) k upper (holds set)) j buffer₀ buffer
 
 abbrev μ-loop : tie.MeasureT-loop
-μ-loop arcs supplies marks k upper buffer₀ count j₀ buffer j = length arcs / arc-entries - j
+μ-loop arcs supplies set k upper buffer₀ count j₀ buffer j = length arcs / arc-entries - j
 
 loop-holds : tie.Need-loop-holds Inv-loop μ-loop
 loop-holds c = (omega arith, entries-none)
@@ -48,7 +48,7 @@ same-length c = c .before .loop .inv .1 .same-length
 
 returns : tie.Need-returns Inv-loop μ-loop
 returns c =
-    let full : c .before .loop .j ≡ length (c .before .before .before .before .before .args .arcs .now) / arc-entries = omega arith in
+    let full : c .before .loop .j ≡ length (c .before .before .before .before .args .arcs .now) / arc-entries = omega arith in
     rw full at (written (c .before .loop .inv .1))
 
 pub mark-arcs-for-spec : {M : Type 1} → statement M

@@ -2,7 +2,7 @@
 use mathlib.Core.Path.{_≡_, _∙_}
 use native.Mathlib.Omega.{arith}
 use borrow.Author.Needs.{needs}
-use Rattle.reach.specs.Reach.{marked}
+use Rattle.words.specs.Word.{holds}
 use Rattle.plan.specs.Plan.{Plan, Set, plan-of}
 use Rattle.plan.specs.Shortage.{leaves, enters}
 use Rattle.plan.specs.Reason.{others}
@@ -31,18 +31,18 @@ mul-high c = search needs
 shared-slice-read-high : tie.Need-shared-slice-read-high
 shared-slice-read-high c = search needs
 
-end-marked-requires : tie.Need-end-marked-requires
-end-marked-requires c κs =
+end-inside-requires : tie.Need-end-inside-requires
+end-inside-requires c κs =
+    let start = c .before .before .before in
+    (omega arith, omega (arith, start .pre .0 .nodes-fit, start .pre .0 .from-node (start .args .j) (start .pre .1)))
+
+add-end-inside : tie.Need-add-end-inside
+add-end-inside c = search needs
+
+end-inside-requires-2 : tie.Need-end-inside-requires-2
+end-inside-requires-2 c κs =
     let start = c .before .before .before .before in
-    (omega arith, omega (arith, start .pre .0 .from-node (start .args .j) (start .pre .1 .1)))
-
-add-end-marked : tie.Need-add-end-marked
-add-end-marked c = search needs
-
-end-marked-requires-2 : tie.Need-end-marked-requires-2
-end-marked-requires-2 c κs =
-    let start = c .before .before .before .before .before in
-    (omega arith, omega (arith, start .pre .0 .to-node (start .args .j) (start .pre .1 .1)))
+    (omega arith, omega (arith, start .pre .0 .nodes-fit, start .pre .0 .to-node (start .args .j) (start .pre .1)))
 
 and-not-requires : tie.Need-and-not-requires
 and-not-requires c κs = search needs
@@ -53,23 +53,23 @@ and-not-requires-2 c κs = search needs
 and-not-requires-3 : tie.Need-and-not-requires-3
 and-not-requires-3 c κs = search needs
 
--- once the two flags are made: the plan and the marked set, and what the flags are
+-- once the two flags are made: the plan and the set, and what the flags are
 abbrev start : tie.After-and-not3 → tie.Start
-start c = c .before .before .before .before .before .before .before .before .before
+start c = c .before .before .before .before .before .before .before .before
 
 abbrev plan : tie.After-and-not3 → Plan
 plan c = plan-of (start c .args .arcs .now) (start c .args .supplies .now)
 
 abbrev inside : tie.After-and-not3 → Set
-inside c = marked (start c .args .marks .now)
+inside c = holds (start c .args .set)
 
 enters-seen : (c : tie.After-and-not3) → c .before .before .and-not .result ≡ enters (plan c) (inside c) (start c .args .j)
-enters-seen c = entered (plan c) (start c .args .k) (inside c) (start c .args .j) (c .before .before .before .before .end-marked .ensures)
-    (c .before .before .before .end-marked2 .ensures) (c .before .before .and-not .ensures)
+enters-seen c = entered (plan c) (start c .args .k) (inside c) (start c .args .j) (c .before .before .before .before .end-inside .ensures)
+    (c .before .before .before .end-inside2 .ensures) (c .before .before .and-not .ensures)
 
 leaves-seen : (c : tie.After-and-not3) → c .and-not3 .result ≡ others (start c .args .k) (leaves (plan c) (inside c)) (start c .args .j)
-leaves-seen c = left (plan c) (start c .args .k) (inside c) (start c .args .j) (c .before .before .before .before .end-marked .ensures)
-    (c .before .before .before .end-marked2 .ensures) (c .before .and-not2 .ensures) (c .and-not3 .ensures)
+leaves-seen c = left (plan c) (start c .args .k) (inside c) (start c .args .j) (c .before .before .before .before .end-inside .ensures)
+    (c .before .before .before .end-inside2 .ensures) (c .before .and-not2 .ensures) (c .and-not3 .ensures)
 
 cite-requires : tie.Need-cite-requires
 cite-requires c κs = search needs
@@ -100,9 +100,9 @@ mark-of-spec =
     add-high
     mul-high
     shared-slice-read-high
-    end-marked-requires
-    add-end-marked
-    end-marked-requires-2
+    end-inside-requires
+    add-end-inside
+    end-inside-requires-2
     and-not-requires
     and-not-requires-2
     and-not-requires-3

@@ -1,136 +1,139 @@
--- The row is looked at up to y: each turn passes a node, or marks it and adds it to a log that then has fewer than n.
-use Prim.Native.Nat.{_-_, _≤_, _<_}
-use mathlib.Core.Path.{_≡_, refl}
-use mathlib.Core.Logic.{⊎-elim}
+-- The nodes that were outside are looked at one by one: each turn passes a node, or puts it into the set and adds it to a log
+-- that then has fewer than n.
+use Prim.Native.Nat.{ℕ, _<_}
+use mathlib.Core.Path.{_≡_, refl, ap, _∙_}
+use mathlib.Core.Bool.{true, not, _&&_}
 use lib.ListN.{length, length-set}
+use Rattle.words.specs.Word.{holds}
+use Rattle.words.proofs.Bits.{zero-holds}
 use Rattle.rooms.specs.Room.{at, seen}
 use Rattle.reach.specs.Searched.{Desk}
-use Rattle.reach.proofs.SearchLoop.{Row, row-none, row-short, row-passed, row-marked, row-found}
+use Rattle.reach.proofs.SearchLoop.{TakenOut, put-in, taken-out, Row, row-none, row-short, row-ends, row-passed, row-found}
 use native.Mathlib.Omega.{arith}
+use borrow.Author.Needs.{needs}
 use Rattle.reach.proofs.look_at.Statement.{statement}
 use Rattle.reach.proofs.look_at.Tie as tie
 
 abbrev Inv-loop : tie.InvT-loop
-Inv-loop rooms back n u v head marks₀ order₀ finder₀ known x count₀ y₀ marks order finder count y =
-    (y ≤ n)
-    × (length marks ≡ length marks₀)
-    × (length order ≡ length order₀)
+Inv-loop rooms back n u v head order₀ finder₀ found x count₀ reached₀ left₀ order finder count reached left =
+    (length order ≡ length order₀)
     × (length finder ≡ length finder₀)
-    × Row n (seen rooms back) u v head marks₀ order₀ finder₀ known marks order finder count y
+    × Row n (seen rooms back) u v head (holds (found .reached)) order₀ finder₀ (found .count) (holds reached) order finder count (holds left)
 
 abbrev μ-loop : tie.MeasureT-loop
-μ-loop rooms back n u v head marks₀ order₀ finder₀ known x count₀ y₀ marks order finder count y = n - y
+μ-loop rooms back n u v head order₀ finder₀ found x count₀ reached₀ left₀ order finder count reached left = left
 
--- the function's entry; the desk of the lists now; a place in the log for a node that is not marked
+-- behind the loop's head: the function's entry; the desk of the lists now
 abbrev start : tie.At-loop Inv-loop μ-loop → tie.Start Inv-loop μ-loop
-start a = a .before .before .before .before .before .before
+start a = a .before .before .before .before .before .before .before
 
-desk : (a : tie.At-loop Inv-loop μ-loop) → Desk (start a .args .n) (a .loop .marks) (a .loop .order) (a .loop .finder)
+desk : (a : tie.At-loop Inv-loop μ-loop) → Desk (start a .args .n) (a .loop .order) (a .loop .finder)
 desk a = record {
-  marks-whole = omega (arith, start a .pre .1 .1 .0 .marks-whole, a .loop .inv .1);
-  order-whole = omega (arith, start a .pre .1 .1 .0 .order-whole, a .loop .inv .2);
-  finder-whole = omega (arith, start a .pre .1 .1 .0 .finder-whole, a .loop .inv .3);
+  order-whole = omega (arith, start a .pre .1 .1 .0 .order-whole, a .loop .inv .0);
+  finder-whole = omega (arith, start a .pre .1 .1 .0 .finder-whole, a .loop .inv .1);
 }
 
-short : (c : tie.In-loop Inv-loop μ-loop) → at (c .before .loop .marks) (c .before .loop .y) ≡ 0
-    → c .before .loop .count < start (c .before) .args .n
-short c = row-short (c .before .loop .inv .4) (start (c .before) .pre .1 .1 .1 .1 .0 .1 .1) (c .loop-test .taken)
+-- the node at the head of the log
+head-node : (a : tie.At-loop Inv-loop μ-loop) → at (start a .args .order .now) (start a .args .head) < start a .args .n
+head-node a = start a .pre .1 .1 .1 .1 .1 .node (start a .args .head) (start a .pre .1 .1 .1 .0)
 
-free : (c : tie.Then2 Inv-loop μ-loop)
-    → c .before .before .before .before .before .loop .count < start (c .before .before .before .before .before) .args .n
-free c = short (c .before .before .before .before) (c .before .before .if1 .taken)
+-- once the next node is taken off: the loop's head, the node, that it is a node with a free place in the log, and what is left
+abbrev loop-of : tie.After-take-first Inv-loop μ-loop → tie.At-loop Inv-loop μ-loop
+loop-of c = c .before .before
 
-mul-x : tie.Need-mul-x Inv-loop μ-loop
-mul-x c = let p = c .before .before .before .before .pre in omega (arith, p .0, p .1 .1 .1 .0, p .1 .1 .1 .1 .0 .1 .1 .count-fits)
+abbrev next : tie.After-take-first Inv-loop μ-loop → ℕ
+next c = c .take-first .result .first
+
+there : (c : tie.After-take-first Inv-loop μ-loop) → holds (loop-of c .loop .left) (next c) ≡ true
+there c = c .take-first .ensures .there
+
+node : (c : tie.After-take-first Inv-loop μ-loop) → next c < start (loop-of c) .args .n
+node c = loop-of c .loop .inv .2 .left-node (next c) (there c)
+
+free : (c : tie.After-take-first Inv-loop μ-loop) → loop-of c .loop .count < start (loop-of c) .args .n
+free c = row-short (loop-of c .loop .inv .2) (start (loop-of c) .pre .1 .1 .1 .1 .1) (next c) (there c)
+
+taken : (c : tie.After-take-first Inv-loop μ-loop) → TakenOut (holds (loop-of c .loop .left)) (holds (c .take-first .result .rest)) (next c)
+taken c = taken-out (loop-of c .loop .left) (next c) (c .take-first .result .rest) (c .take-first .ensures)
 
 slice-read-x : tie.Need-slice-read-x Inv-loop μ-loop
-slice-read-x c = let p = c .before .before .before .before .before .pre in
-    omega (arith, p .1 .1 .0 .order-whole, p .1 .1 .1 .0, p .1 .1 .1 .1 .0 .1 .1 .count-fits)
+slice-read-x c = let p = c .before .before .before .before .pre in
+    omega (arith, p .1 .1 .0 .order-whole, p .1 .1 .1 .0, p .1 .1 .1 .1 .1 .count-fits)
+
+below-requires : tie.Need-below-requires Inv-loop μ-loop
+below-requires c κs = search needs
+
+but-requires : tie.Need-but-requires Inv-loop μ-loop
+but-requires c κs = search needs
 
 loop-holds : tie.Need-loop-holds Inv-loop μ-loop
-loop-holds c = (omega arith, refl, refl, refl, row-none (c .before .before .before .before .before .pre .1 .1 .1 .1 .1))
+loop-holds c =
+    let reached = c .before .before .before .before .before .before .args .found .reached in
+    (refl, refl, row-none (λ z. c .but .ensures z ∙ ap (λ t. t && not (holds reached z)) (c .before .below .ensures z)))
 
-slice-read-if1 : tie.Need-slice-read-if1 Inv-loop μ-loop
-slice-read-if1 c = omega (arith, desk (c .before .before))
+take-first-requires : tie.Need-take-first-requires Inv-loop μ-loop
+take-first-requires c κs = search needs
+
+cast-leads : tie.Need-cast-leads Inv-loop μ-loop
+cast-leads c = record { fits = omega (arith, head-node (loop-of c), start (loop-of c) .pre .0) }
 
 leads-requires : tie.Need-leads-requires Inv-loop μ-loop
 leads-requires c κs =
-    let s = start (c .before .before .before) in (
-      s .pre .1 .0,
-      (
-        omega (arith, s .pre .0, s .pre .1 .1 .1 .1 .0 .1 .1 .node (s .args .head) (s .pre .1 .1 .1 .0)),
-        omega (arith, s .pre .0),
-      ),
-    )
+    let s = start (loop-of c) in
+    (s .pre .1 .0, (omega (arith, head-node (loop-of c), s .pre .0), omega (arith, node c, s .pre .0)))
 
-slice-write-marks : tie.Need-slice-write-marks Inv-loop μ-loop
-slice-write-marks c = omega (arith, desk (c .before .before .before .before .before))
+one-requires : tie.Need-one-requires Inv-loop μ-loop
+one-requires c κs = c .before .before .take-first .ensures .in-word
 
-mul-order : tie.Need-mul-order Inv-loop μ-loop
-mul-order c = omega (arith, free c, start (c .before .before .before .before .before) .pre .0)
+either-requires : tie.Need-either-requires Inv-loop μ-loop
+either-requires c κs = search needs
+
+cast-order : tie.Need-cast-order Inv-loop μ-loop
+cast-order c = let t = c .before .before .before .before in record { fits = omega (arith, node t, start (loop-of t) .pre .0) }
 
 slice-write-order : tie.Need-slice-write-order Inv-loop μ-loop
-slice-write-order c = omega (arith, free c, desk (c .before .before .before .before .before))
-
-mul-finder : tie.Need-mul-finder Inv-loop μ-loop
-mul-finder c = omega (arith, free c, start (c .before .before .before .before .before) .pre .0)
+slice-write-order c = let t = c .before .before .before .before in omega (arith, free t, desk (loop-of t))
 
 slice-write-finder : tie.Need-slice-write-finder Inv-loop μ-loop
-slice-write-finder c = omega (arith, free c, desk (c .before .before .before .before .before))
+slice-write-finder c = let t = c .before .before .before .before in omega (arith, free t, desk (loop-of t))
 
 add-count : tie.Need-add-count Inv-loop μ-loop
-add-count c = omega (arith, free c, start (c .before .before .before .before .before) .pre .0)
-
-add-y : tie.Need-add-y Inv-loop μ-loop
-add-y c = omega (arith, start (c .before .before .before) .pre .0)
+add-count c = let t = c .before .before .before .before in omega (arith, free t, start (loop-of t) .pre .0)
 
 loop-less : tie.Need-loop-less Inv-loop μ-loop
-loop-less c = omega arith
+loop-less c = c .before .before .before .before .take-first .ensures .less
 
 loop-again : tie.Need-loop-again Inv-loop μ-loop
 loop-again c =
-    let a = c .before .before .before in
-    let inv = a .loop .inv in
-    ⊎-elim
-    (λ w. rw (w .3, w .4, w .5, w .6) (
-      omega arith,
+    let t = c .before .before .before .before in
+    let a = loop-of t in
+    let inv = a .loop .inv in (
+      simp length-set (inv .0),
       simp length-set (inv .1),
-      simp length-set (inv .2),
-      simp length-set (inv .3),
-      row-found (inv .4) (desk a) (start a .pre .1 .1 .1 .0) (c .before .before .loop-test .taken) (w .0 .taken)
-          (short (c .before .before) (w .0 .taken)) (w .1 .ensures .0 (w .2 .taken)),
-    ))
-    (⊎-elim
-    (λ w. rw (w .3, w .4, w .5, w .6) (
-      omega arith,
-      inv .1,
-      inv .2,
-      inv .3,
-      row-passed (inv .4) (λ step. absurd (w .1 .ensures .1 (w .2 .left) step)),
-    ))
-    (λ w. rw (w .1, w .2, w .3, w .4) (
-      omega arith,
-      inv .1,
-      inv .2,
-      inv .3,
-      row-marked (inv .4) (c .before .before .loop-test .taken) (w .0 .left),
-    )))
-    (c .if1 .came)
+      row-found (inv .2) (there t) (taken t) (desk a) (start a .pre .1 .1 .1 .0) (free t) (c .before .before .before .leads .ensures .0 (c .before .before .if1 .taken))
+          (put-in (c .before .one .result) (a .loop .reached) (c .either .result) (next t) (c .before .one .ensures) (c .either .ensures)),
+    )
+
+loop-less-2 : tie.Need-loop-less-2 Inv-loop μ-loop
+loop-less-2 c = c .before .before .take-first .ensures .less
+
+loop-again-2 : tie.Need-loop-again-2 Inv-loop μ-loop
+loop-again-2 c =
+    let t = c .before .before in
+    let inv = loop-of t .loop .inv in
+    (inv .0, inv .1, row-passed (inv .2) (there t) (taken t) (c .before .leads .ensures .1 (c .if1 .left)))
 
 same-length : tie.Need-same-length Inv-loop μ-loop
-same-length c = omega arith
+same-length c = c .before .loop .inv .0
 
 same-length-2 : tie.Need-same-length-2 Inv-loop μ-loop
-same-length-2 c = omega arith
-
-same-length-3 : tie.Need-same-length-3 Inv-loop μ-loop
-same-length-3 c = omega arith
+same-length-2 c = c .before .loop .inv .1
 
 returns : tie.Need-returns Inv-loop μ-loop
 returns c =
-    let full : c .before .loop .y ≡ start (c .before) .args .n = omega arith in
-    let row = rw full at (c .before .loop .inv .4) in
-    (row .log, (row .before, (row .grown, row .row)))
+    let row = c .before .loop .inv .2 in
+    let none : c .before .loop .left ≡ 0 = omega arith in
+    (λ over. row .log over _, (row .before, (row .grown, (row .within, (row-ends row (λ z. ap (λ (word : ℕ). holds word z) none ∙ zero-holds z), refl)))))
 
 pub look-at-spec : {M : Type 1} → statement M
 look-at-spec =
@@ -138,21 +141,23 @@ look-at-spec =
     (tie.spec
     Inv-loop
     μ-loop
-    mul-x
     slice-read-x
+    below-requires
+    but-requires
     loop-holds
-    slice-read-if1
+    take-first-requires
+    cast-leads
     leads-requires
-    slice-write-marks
-    mul-order
+    one-requires
+    either-requires
+    cast-order
     slice-write-order
-    mul-finder
     slice-write-finder
     add-count
-    add-y
     loop-less
     loop-again
+    loop-less-2
+    loop-again-2
     same-length
     same-length-2
-    same-length-3
     returns)

@@ -3,6 +3,7 @@ use Rattle.rooms.specs.Room.{at}
 use borrow.Author.Count.{below-more}
 use mathlib.Core.Path.{_≡_}
 use Prim.Native.Nat.{ℕ, _-_, _≤_, _<_}
+use lib.ListN.{length}
 use borrow.Author.Needs.{needs}
 use native.Mathlib.Omega.{arith}
 use Rattle.engine.proofs.settle.first_lack.Statement.{statement}
@@ -14,20 +15,25 @@ Inv-loop under order count j₀ j = (j ≤ count) × ((i : ℕ) → i < j → at
 abbrev μ-loop : tie.MeasureT-loop
 μ-loop under order count j₀ j = count - j
 
+-- the node at the place
+node : (c : tie.After-shared-slice-known Inv-loop μ-loop)
+    → at (c .before .before .before .args .order .now) (c .before .before .loop .j) < length (c .before .before .before .args .under .now)
+node c = c .before .before .before .pre .1 (c .before .before .loop .j) (c .before .loop-test .taken)
+
 loop-holds : tie.Need-loop-holds Inv-loop μ-loop
 loop-holds c = (omega arith, λ i l. absurd (omega arith))
-
-mul-x : tie.Need-mul-x Inv-loop μ-loop
-mul-x c = search needs
 
 shared-slice-read-x : tie.Need-shared-slice-read-x Inv-loop μ-loop
 shared-slice-read-x c = search needs
 
+cast-x : tie.Need-cast-x Inv-loop μ-loop
+cast-x c = record { fits = omega (arith, node c, c .before .before .before .good .0 .1) }
+
 mul-if1 : tie.Need-mul-if1 Inv-loop μ-loop
-mul-if1 c = record { fits = omega (arith, c .before .before .before .pre .1 (c .before .before .loop .j) (c .before .loop-test .taken), c .before .before .before .good .0 .1) }
+mul-if1 c = record { fits = omega (arith, node c, c .before .before .before .good .0 .1) }
 
 shared-slice-read-if1 : tie.Need-shared-slice-read-if1 Inv-loop μ-loop
-shared-slice-read-if1 c = c .before .before .before .before .pre .1 (c .before .before .before .loop .j) (c .before .before .loop-test .taken)
+shared-slice-read-if1 c = node (c .before)
 
 returns : tie.Need-returns Inv-loop μ-loop
 returns c = record { within = omega arith; before = c .before .before .before .before .loop .inv .1; there = λ l. c .if1 .taken }
@@ -51,8 +57,8 @@ first-lack-spec =
     Inv-loop
     μ-loop
     loop-holds
-    mul-x
     shared-slice-read-x
+    cast-x
     mul-if1
     shared-slice-read-if1
     returns

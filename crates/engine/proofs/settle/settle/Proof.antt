@@ -10,7 +10,7 @@ slice-aggregate-settle-on-2 : tie.Need-slice-aggregate-settle-on-2
 slice-aggregate-settle-on-2 c = search needs
 
 settle-on-requires : tie.Need-settle-on-requires
-settle-on-requires c κs = let pre = c .before .before .before .before .before .before .before .before .before .before .pre in (pre .0, (pre .1 .0, record { marks-whole = pre .1 .1; order-whole = pre .0 .nodes-fit; finder-whole = pre .0 .nodes-fit }))
+settle-on-requires c κs = let pre = c .before .before .before .before .before .before .before .before .pre in (pre .0, (pre .1, record { order-whole = pre .0 .nodes-fit; finder-whole = pre .0 .nodes-fit }))
 
 same-length : tie.Need-same-length
 same-length c = search needs
@@ -20,9 +20,6 @@ same-length-2 c = search needs
 
 same-length-3 : tie.Need-same-length-3
 same-length-3 c = search needs
-
-same-length-4 : tie.Need-same-length-4
-same-length-4 c = search needs
 
 returns : tie.Need-returns
 returns c = search needs
@@ -37,5 +34,4 @@ settle-spec =
     same-length
     same-length-2
     same-length-3
-    same-length-4
     returns)

@@ -7,20 +7,22 @@ use borrow.Author.Needs.{needs}
 use Rattle.engine.proofs.sweep.turn.Statement.{statement}
 use Rattle.engine.proofs.sweep.turn.Tie as tie
 
-mul-y : tie.Need-mul-y
-mul-y c = search needs
-
 shared-slice-read-y : tie.Need-shared-slice-read-y
 shared-slice-read-y c = search needs
+
+cast-y : tie.Need-cast-y
+cast-y c = search needs
 
 pay-requires : tie.Need-pay-requires
 pay-requires c κs = search needs
 
-mul-x : tie.Need-mul-x
-mul-x c = search needs
-
 shared-slice-read-x : tie.Need-shared-slice-read-x
 shared-slice-read-x c = search needs
+
+cast-x : tie.Need-cast-x
+cast-x c =
+    let pre = c .before .before .before .before .before .before .before .before .pre in
+    record { fits = omega (arith, pre .1 .1 .1 (c .before .if1 .left) .0, pre .0 .nodes-fit) }
 
 move-on-requires : tie.Need-move-on-requires
 move-on-requires c κs =
@@ -77,11 +79,11 @@ pub turn-spec : {M : Type 1} → statement M
 turn-spec =
     tie.close
     (tie.spec
-    mul-y
     shared-slice-read-y
+    cast-y
     pay-requires
-    mul-x
     shared-slice-read-x
+    cast-x
     move-on-requires
     same-length
     same-length-2

@@ -5,7 +5,7 @@ use Rattle.held.proofs.request.work_out_on.Statement.{statement}
 use Rattle.held.proofs.request.work_out_on.Tie as tie
 
 ask-requires : tie.Need-ask-requires
-ask-requires c κs = c .before .before .before .before .before .before .before .before .before .before .pre .0
+ask-requires c κs = c .before .before .before .before .before .before .before .before .pre .0
 
 enum-told : tie.Need-enum-told
 enum-told c = search needs
@@ -25,16 +25,16 @@ same-length-2 c = search needs
 same-length-3 : tie.Need-same-length-3
 same-length-3 c = search needs
 
-same-length-4 : tie.Need-same-length-4
-same-length-4 c = search needs
-
 returns : tie.Need-returns
-returns c = rw (c .to .ensures, c .before .enum-told2 .given .1) ((_, c .before .before .before .before .before .before .before .before .before .before .before .ask .ensures .lacks _ (c .before .enum-told2 .given .1) .short), refl)
+returns c = rw (c .to .ensures, c .before .enum-told2 .given .1) ((_, c .before .before .before .before .before .before .before .before .before .ask .ensures .lacks _ (c .before .enum-told2 .given .1)), refl)
 
 hold-and-write-requires : tie.Need-hold-and-write-requires
 hold-and-write-requires c κs =
-    let pre = c .before .before .before .before .before .before .before .before .before .before .before .before .before .before .before .before .before .before .before .before .before .before .before .before .before .before .pre in
-    (c .before .before .before .before .before .before .before .before .before .before .before .before .before .before .before .ask .ensures .balances (c .before .before .before .before .before .enum-told .given .1), pre .1)
+    let pre = c .before .before .before .before .before .before .before .before .before .before .before .before .before .before .before .before .before .before .before .before .before .pre in
+    (c .before .before .before .before .before .before .before .before .before .before .before .before .ask .ensures .balances (c .before .before .before .before .enum-told .given .1), pre .1)
+
+same-length-4 : tie.Need-same-length-4
+same-length-4 c = search needs
 
 same-length-5 : tie.Need-same-length-5
 same-length-5 c = search needs
@@ -44,12 +44,6 @@ same-length-6 c = search needs
 
 same-length-7 : tie.Need-same-length-7
 same-length-7 c = search needs
-
-same-length-8 : tie.Need-same-length-8
-same-length-8 c = search needs
-
-same-length-9 : tie.Need-same-length-9
-same-length-9 c = search needs
 
 returns-2 : tie.Need-returns-2
 returns-2 c = search needs
@@ -65,12 +59,10 @@ work-out-on-spec =
     same-length
     same-length-2
     same-length-3
-    same-length-4
     returns
     hold-and-write-requires
+    same-length-4
     same-length-5
     same-length-6
     same-length-7
-    same-length-8
-    same-length-9
     returns-2)

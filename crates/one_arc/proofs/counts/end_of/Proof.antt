@@ -9,22 +9,22 @@ either-requires : tie.Need-either-requires
 either-requires c κs = search needs
 
 returns : tie.Need-returns
-returns c = λ p k st. (rw (c .either .ensures) (standing-loop st (c .before .before .before .before .before .before .args .upper) (sym (c .before .if1 .taken))), st .ready)
+returns c = λ p k st. (rw (c .either .ensures) (standing-loop st (c .before .before .before .before .before .args .upper) (sym (c .before .if1 .taken))), st .ready)
 
 sub-measure : tie.Need-sub-measure
-sub-measure c = standing-range (c .before .before .before .before .before .before .before .before .pre .1 .1 .1 .1)
+sub-measure c = standing-range (c .before .before .before .before .before .before .before .pre .1 .1 .1)
 
 measure-requires : tie.Need-measure-requires
 measure-requires c κs =
-    let pre = c .before .before .before .before .before .before .before .before .before .pre in
-    let st = pre .1 .1 .1 .1 in
-    let ne : c .before .before .before .before .before .before .before .before .before .args .b ≡ c .before .before .before .before .before .before .before .before .before .args .a → ⊥ = λ e. c .before .before .before .before .if1 .left (sym e) in
-    let rooms = c .before .before .before .before .before .before .before .before .before .args .rooms .now in
-    let upper = c .before .before .before .before .before .before .before .before .before .args .upper in
-    (record { lent = pre .0; small = facing-small rooms st upper; balanced = standing-balanced st }, (pre .1 .0, ((standing-from st, standing-to st, ne), facing-wide rooms st upper ne)))
+    let pre = c .before .before .before .before .before .before .before .pre in
+    let st = pre .1 .1 .1 in
+    let ne : c .before .before .before .before .before .before .before .args .b ≡ c .before .before .before .before .before .before .before .args .a → ⊥ = λ e. c .before .before .before .if1 .left (sym e) in
+    let rooms = c .before .before .before .before .before .before .before .args .rooms .now in
+    let upper = c .before .before .before .before .before .before .before .args .upper in
+    (record { lent = pre .0; small = facing-small rooms st upper; balanced = standing-balanced st }, ((standing-from st, standing-to st, ne), facing-wide rooms st upper ne))
 
 end-at-requires : tie.Need-end-at-requires
-end-at-requires c κs = (standing-range (c .before .before .before .before .before .before .before .before .before .before .before .before .before .before .before .before .before .before .pre .1 .1 .1 .1), c .before .before .before .before .before .before .before .before .measure .ensures .0 .measure .fits)
+end-at-requires c κs = (standing-range (c .before .before .before .before .before .before .before .before .before .before .before .before .before .before .pre .1 .1 .1), c .before .before .before .before .before .before .measure .ensures .0 .measure .fits)
 
 same-length : tie.Need-same-length
 same-length c = search needs
@@ -35,14 +35,11 @@ same-length-2 c = search needs
 same-length-3 : tie.Need-same-length-3
 same-length-3 c = search needs
 
-same-length-4 : tie.Need-same-length-4
-same-length-4 c = search needs
-
 returns-2 : tie.Need-returns-2
 returns-2 c =
     λ p k st.
-    let m = c .before .before .before .before .before .before .before .before .before .measure .ensures .0 in
-    (rw (c .end-at .ensures) (facing-end (c .before .before .before .before .before .before .before .before .before .before .before .before .before .before .before .before .before .before .before .args .rooms .now) st (c .before .before .before .before .before .before .before .before .before .before .before .before .before .before .before .before .before .before .before .args .upper) (m .measure)), measured-ready st m (c .before .before .before .before .before .before .before .before .before .measure .ensures .1))
+    let m = c .before .before .before .before .before .before .before .measure .ensures .0 in
+    (rw (c .end-at .ensures) (facing-end (c .before .before .before .before .before .before .before .before .before .before .before .before .before .before .before .args .rooms .now) st (c .before .before .before .before .before .before .before .before .before .before .before .before .before .before .before .args .upper) (m .measure)), measured-ready st m (c .before .before .before .before .before .before .before .measure .ensures .1))
 
 pub end-of-spec : {M : Type 1} → statement M
 end-of-spec =
@@ -56,5 +53,4 @@ end-of-spec =
     same-length
     same-length-2
     same-length-3
-    same-length-4
     returns-2)

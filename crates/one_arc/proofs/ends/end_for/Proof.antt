@@ -17,9 +17,9 @@ cast-to c = search needs
 
 end-of-requires : tie.Need-end-of-requires
 end-of-requires c κs =
-    let pre = c .before .before .before .before .before .before .before .before .before .before .before .before .pre in
-    let p = plan-of (c .before .before .before .before .before .before .before .before .before .before .before .before .args .arcs .now) (c .before .before .before .before .before .before .before .before .before .before .before .before .args .supplies .now) in
-    (pre .0 .desk .lent, (pre .0 .desk .marks-fit, (p, (c .before .before .before .before .before .before .before .before .before .before .before .before .args .k, rw (c .before .before .before .before .before .before .arc-at .ensures) (own-standing {p = p} {k = c .before .before .before .before .before .before .before .before .before .before .before .before .args .k} (pre .0 .desk .plan) (pre .1) (pre .0 .ready))))))
+    let pre = c .before .before .before .before .before .before .before .before .before .before .pre in
+    let p = plan-of (c .before .before .before .before .before .before .before .before .before .before .args .arcs .now) (c .before .before .before .before .before .before .before .before .before .before .args .supplies .now) in
+    (pre .0 .desk .lent, (p, (c .before .before .before .before .before .before .before .before .before .before .args .k, rw (c .before .before .before .before .before .arc-at .ensures) (own-standing {p = p} {k = c .before .before .before .before .before .before .before .before .before .before .args .k} (pre .0 .desk .plan) (pre .1) (pre .0 .ready)))))
 
 same-length : tie.Need-same-length
 same-length c = search needs
@@ -30,18 +30,15 @@ same-length-2 c = search needs
 same-length-3 : tie.Need-same-length-3
 same-length-3 c = search needs
 
-same-length-4 : tie.Need-same-length-4
-same-length-4 c = search needs
-
 returns : tie.Need-returns
 returns c =
-    let pre = c .before .before .before .before .before .before .before .before .before .before .before .before .before .before .before .before .before .before .before .before .before .pre in
-    let p = plan-of (c .before .before .before .before .before .before .before .before .before .before .before .before .before .before .before .before .before .before .before .before .before .args .arcs .now) (c .before .before .before .before .before .before .before .before .before .before .before .before .before .before .before .before .before .before .before .before .before .args .supplies .now) in
-    let s = c .before .before .before .before .before .before .before .before .end-of .kept in
-    let e = c .before .before .before .before .before .before .before .before .end-of .ensures p (c .before .before .before .before .before .before .before .before .before .before .before .before .before .before .before .before .before .before .before .before .before .args .k) (rw (c .before .before .before .before .before .before .before .before .before .before .before .before .before .before .before .arc-at .ensures) (own-standing {p = p} {k = c .before .before .before .before .before .before .before .before .before .before .before .before .before .before .before .before .before .before .before .before .before .args .k} (pre .0 .desk .plan) (pre .1) (pre .0 .ready))) in (
+    let pre = c .before .before .before .before .before .before .before .before .before .before .before .before .before .before .before .before .before .pre in
+    let p = plan-of (c .before .before .before .before .before .before .before .before .before .before .before .before .before .before .before .before .before .args .arcs .now) (c .before .before .before .before .before .before .before .before .before .before .before .before .before .before .before .before .before .args .supplies .now) in
+    let s = c .before .before .before .before .before .before .end-of .kept in
+    let e = c .before .before .before .before .before .before .end-of .ensures p (c .before .before .before .before .before .before .before .before .before .before .before .before .before .before .before .before .before .args .k) (rw (c .before .before .before .before .before .before .before .before .before .before .before .before .arc-at .ensures) (own-standing {p = p} {k = c .before .before .before .before .before .before .before .before .before .before .before .before .before .before .before .before .before .args .k} (pre .0 .desk .plan) (pre .1) (pre .0 .ready))) in (
       e .0,
       record {
-        desk = still-desk (record { first-length = s .0; second-length = s .1 .1 .0; third-length = s .1 .1 .1 .0 }) (s .1 .1 .1 .1 .1 .1 .1 .1 .1 .0) (pre .0 .desk);
+        desk = still-desk (record { first-length = s .0; second-length = s .1 .1 .0; third-length = s .1 .1 .1 .0 }) (pre .0 .desk);
         ready = e .1;
       },
     )
@@ -57,5 +54,4 @@ end-for-spec =
     same-length
     same-length-2
     same-length-3
-    same-length-4
     returns)

@@ -1,0 +1,2 @@
+-- Words as sets of numbers.
+pub mod Word
