@@ -90,10 +90,10 @@ struct request {
 #define BY_TEXTBOOK(name, kind) ROW(name, kind, "textbook", NULL)
 
 static const struct request requests[] = {
-    BY_TEXTBOOK(flow, NETWORK),
+    BY_TEXTBOOK(flow, NETWORK | SLOW),
     BY_TEXTBOOK(narrow, NARROWING),
-    BY_TEXTBOOK(reason, NETWORK),
-    BY_TEXTBOOK(held, NETWORK),
+    BY_TEXTBOOK(reason, NETWORK | SLOW),
+    BY_TEXTBOOK(held, NETWORK | SLOW),
     ROW(flow_arcs, NETWORK, "flow", ask_flow),
     ROW(narrow_arcs, NETWORK, "narrow", ask_narrow),
     ROW(count, COUNTING, "narrow", ask_narrow_to_count),
@@ -191,10 +191,10 @@ static long stack_bytes(const struct party *a, const struct plan *p)
     return (long)(stack_top - stack) - untouched;
 }
 
-static void measure_stack(struct party *a, const struct plan *plans)
+static void measure_stack(struct party *a, const struct group *g)
 {
-    for (int i = 0; i < PLANS; i++) {
-        long bytes = stack_bytes(a, &plans[i]);
+    for (int i = 0; i < g->plan_count; i++) {
+        long bytes = stack_bytes(a, &g->plans[i]);
         a->stack = a->stack < bytes ? bytes : a->stack;
     }
 }
@@ -219,7 +219,7 @@ static void report(const struct request *r, const struct group *g, int i, const 
 /* Prints the first plan of a group about which the answers differ, and ends the program. */
 static void must_agree(const struct request *r, const struct group *g, const struct party *a)
 {
-    for (int i = 0; i < PLANS; i++)
+    for (int i = 0; i < g->plan_count; i++)
         if (memcmp(&a->outcomes[i], &parties[YARDSTICK].outcomes[i], sizeof *a->outcomes)) {
             report(r, g, i, a);
             exit(1);
@@ -269,11 +269,11 @@ static void sum_up(struct party *a, int calls)
 }
 
 /* Goes once round all the plans, so that no plan is warmer than another. */
-static void time_round(struct party *a, const struct plan *plans, int round)
+static void time_round(struct party *a, const struct group *g, int round)
 {
     memset(a->outcomes, STAYS, sizeof a->outcomes);
-    for (int i = 0; i < PLANS; i++)
-        a->times[round * PLANS + i] = time_call(a, &plans[i], &a->outcomes[i]);
+    for (int i = 0; i < g->plan_count; i++)
+        a->times[round * g->plan_count + i] = time_call(a, &g->plans[i], &a->outcomes[i]);
 }
 
 /* All take turns, so that a slow moment of the machine meets each of them, and all answers of a round must agree. */
@@ -282,13 +282,13 @@ static void time_all(const struct request *r, const struct group *g, int rounds)
     for (int round = 0; round < rounds; round++) {
         for (int a = 0; a < PARTIES; a++)
             if (parties[a].ask)
-                time_round(&parties[a], g->plans, round);
+                time_round(&parties[a], g, round);
         for (int a = 0; a < PARTIES; a++)
             if (parties[a].ask)
                 must_agree(r, g, &parties[a]);
     }
     for (int a = PARTIES - 1; 0 <= a; a--)
-        sum_up(&parties[a], rounds * PLANS);
+        sum_up(&parties[a], rounds * g->plan_count);
 }
 
 /* ---- all of it ---- */
@@ -327,12 +327,12 @@ static long bench(const struct request *r, int group_count, int rounds)
     for (const struct group *g = groups; g < groups + group_count; g++) {
         if (!(g->kinds & r->kind))
             continue;
-        measure_stack(&parties[UNIT], g->plans);
+        measure_stack(&parties[UNIT], g);
         if (parties[BEFORE].ask)
-            measure_stack(&parties[BEFORE], g->plans);
+            measure_stack(&parties[BEFORE], g);
         time_all(r, g, rounds);
         print_times(r, g);
-        calls += rounds * PLANS;
+        calls += rounds * g->plan_count;
     }
     print_stack(r);
     return calls;

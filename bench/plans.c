@@ -1,6 +1,7 @@
 /* The families of plans. A network's arcs are given counts and bounds around them, and the supplies follow the counts,
    so that it has a flow; a counting plan's domains and ranges are drawn around an assignment in the same way. */
 #include "plans.h"
+#include "slow.h"
 
 #include <stdio.h>
 #include <stdlib.h>
@@ -24,16 +25,23 @@ static uint32_t below(uint32_t n)
 
 /* ---- networks ---- */
 
-static void add_arc(struct plan *p, uint32_t from, uint32_t to, uint32_t widest)
+void put_arc(struct plan *p, uint32_t from, uint32_t to, uint32_t low, uint32_t high, uint32_t count)
 {
-    uint32_t count = below(widest + 1);
     uint32_t *arc = p->list + 4 * p->arcs++;
     arc[0] = from;
     arc[1] = to;
-    arc[2] = below(2) ? 0 : below(count + 1);
-    arc[3] = below(4) ? count + below(widest - count + 1) : widest;
+    arc[2] = low;
+    arc[3] = high;
     p->supplies[from] += (int32_t)count;
     p->supplies[to] -= (int32_t)count;
+}
+
+static void add_arc(struct plan *p, uint32_t from, uint32_t to, uint32_t widest)
+{
+    uint32_t count = below(widest + 1);
+    uint32_t low = below(2) ? 0 : below(count + 1);
+    uint32_t high = below(4) ? count + below(widest - count + 1) : widest;
+    put_arc(p, from, to, low, high, count);
 }
 
 static void sparse(struct plan *p, int arcs, uint32_t widest)
@@ -91,14 +99,14 @@ static int supplies_fit(const struct plan *p)
     return 1;
 }
 
-/* An arc with an end that moved, if the plan has one, and the middle of the arc's narrowed range. */
-static void choose_questions(struct plan *p)
+/* An arc with an end that moved, from `first` on, if the plan has one, and the middle of the arc's narrowed range. */
+static void choose_questions(struct plan *p, uint32_t first, uint32_t end)
 {
-    uint32_t lows[MOST_ARCS], highs[MOST_ARCS], arcs = (uint32_t)p->arcs, first = below(arcs);
+    uint32_t lows[MOST_ARCS], highs[MOST_ARCS], arcs = (uint32_t)p->arcs;
     struct blenrop_answer a = textbook.narrow(p->list, 4 * arcs, p->supplies, (size_t)p->nodes, lows, MOST_ARCS, highs,
                                               MOST_ARCS);
     p->arc = first;
-    p->end = below(2);
+    p->end = end;
     p->count = p->list[4 * first + 2];
     if (a.number != BLENROP_DONE)
         return;
@@ -110,6 +118,14 @@ static void choose_questions(struct plan *p)
         }
     }
     p->count = (lows[p->arc] + highs[p->arc]) / 2;
+}
+
+/* A slow plan is asked about the first low end that moved; one that is drawn may pull nothing. */
+static void ask_about(struct plan *p, int kinds)
+{
+    uint32_t first = kinds & SLOW ? 0 : below((uint32_t)p->arcs);
+    uint32_t end = kinds & SLOW ? 0 : below(2);
+    choose_questions(p, first, end);
 }
 
 /* ---- counting plans ---- */
@@ -156,11 +172,12 @@ static void draw_network(struct plan *p)
 
 enum { MOST_SIZES = 4 };
 
-/* `sizes` are arc counts and `breadth` the widest bound; of counting plans they are variables and values. */
+/* `sizes` are arc counts and `breadth` the widest bound; of counting plans they are variables and values; slow.h says what
+   they are of slow plans. */
 struct family {
     const char *name;
     int kinds;
-    void (*make)(struct plan *, int size, uint32_t breadth);
+    makes_plan *make;
     uint32_t breadth;
     int sizes[MOST_SIZES]; /* then 0 */
 };
@@ -180,6 +197,13 @@ static const struct family families[] = {
     {"7 variables, 56 values", COUNTING | NARROWING, counting, 56, {7}},
     {"31 variables, 15 values", COUNTING | NARROWING, counting, 15, {31}},
     {"31, 15, no assignment", COUNTING | NARROWING, unassignable, 15, {31}},
+    {"slow: gadget 14x16", SLOW | NARROWING, slow_gadget, 16, {14}},
+    {"slow: gadget 28x16", SLOW | NARROWING, slow_gadget, 16, {28}},
+    {"slow: chain 12x16", SLOW | NARROWING, slow_chain, 16, {12}},
+    {"slow: chain 14x16", SLOW | NARROWING, slow_chain, 16, {14}},
+    {"slow: first 14x16", SLOW | NARROWING, slow_first, 16, {14}},
+    {"slow: ladder 12x12x9", SLOW | NARROWING, slow_ladder, 9, {12}},
+    {"slow: first 12x12x3", SLOW | NARROWING, slow_first_ladder, 3, {12}},
 };
 
 static void make_plan(const struct family *f, int size, struct plan *p)
@@ -191,7 +215,7 @@ static void make_plan(const struct family *f, int size, struct plan *p)
     } while (!supplies_fit(p));
     if (f->kinds & COUNTING)
         draw_network(p);
-    choose_questions(p);
+    ask_about(p, f->kinds);
     p->file_length = (size_t)textbook.file_write(p->list, 4 * (size_t)p->arcs, p->supplies, (size_t)p->nodes, p->file,
                                                  MOST_FILE).value;
     p->block = below((uint32_t)p->file_length / 512);
@@ -206,7 +230,8 @@ int make_groups(void)
         for (const int *size = families[f].sizes; *size != 0; size++, made++) {
             groups[made].name = families[f].name;
             groups[made].kinds = families[f].kinds;
-            for (int i = 0; i < PLANS; i++)
+            groups[made].plan_count = families[f].kinds & SLOW ? 1 : PLANS;
+            for (int i = 0; i < groups[made].plan_count; i++)
                 make_plan(&families[f], *size, &groups[made].plans[i]);
         }
     return made;

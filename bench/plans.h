@@ -4,10 +4,10 @@
 
 #include "unit.h"
 
-enum { PLANS = 24, MOST_GROUPS = 32 };
+enum { PLANS = 24, MOST_GROUPS = 40 };
 
 /* Kinds of requests that are asked about a plan. */
-enum { NETWORK = 1, NARROWING = 2, COUNTING = 4, FILES = 8 };
+enum { NETWORK = 1, NARROWING = 2, COUNTING = 4, FILES = 8, SLOW = 16 };
 
 struct plan {
     int nodes, arcs;
@@ -25,10 +25,10 @@ struct plan {
     uint32_t block;
 };
 
-/* Plans of one family and size. */
+/* Plans of one family and size: PLANS of them, or one slow plan. */
 struct group {
     const char *name;
-    int kinds;
+    int kinds, plan_count;
     struct plan plans[PLANS];
 };
 
@@ -36,6 +36,9 @@ extern struct group groups[MOST_GROUPS];
 
 /* Makes all groups, and says how many there are. Every plan is well-formed. */
 int make_groups(void);
+
+/* Adds an arc, and lets the supplies follow its count. */
+void put_arc(struct plan *p, uint32_t from, uint32_t to, uint32_t low, uint32_t high, uint32_t count);
 
 void print_plan(const struct plan *p);
 

@@ -1,1 +1,3 @@
-pub mod Raising
+pub mod Crossing
+pub mod Rounds
+pub mod Holding

@@ -1,4 +1,5 @@
-// How much room leads across from one node to another, which set is in the way, and an arc's share taken
-// out of the rooms. It uses `engine` for moving, and knows no plans. Internal: its functions have
-// `requires`.
-pub mod raise;
+// Across a pair of nodes: how much can be brought from one to the other besides the direct step, and which set is in the way; and an
+// arc's share taken out of the rooms. Everything is in balance before and after. It uses `reach` to find a way round and `engine` to
+// move along it. Internal: its functions have `requires`.
+pub mod hold;
+pub mod round;

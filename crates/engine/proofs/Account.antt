@@ -1,5 +1,5 @@
--- Every account stays when what lacks is moved on or paid: one number of a sum changes, or one room of a double sum, and the
--- two changes cancel for each set, whichever of the two nodes it holds.
+-- What a change of one number does to a sum over a set, and what a change of one room or of a pair's two rooms does to the room
+-- that leads out of a set.
 use Prim.Native.Nat.{ℕ, _+_, _≤_, _<_}
 use mathlib.Core.Path.{_≡_, refl, sym, ap, _∙_}
 use mathlib.Core.Bool.{Bool, true, false, cond, not, _&&_}
@@ -8,11 +8,10 @@ use native.Mathlib.Omega.{arith}
 use native.Mathlib.Decide.{ℕ-discrete}
 use lib.Dec.{eqb}
 use borrow.Author.Tests.{eq-eqb, eqb-true}
-use Rattle.numbers.specs.Sums.{sum, only, sum-in, put}
-use Rattle.numbers.proofs.Sums.{sum-same, sum-change, put-there, put-elsewhere, sum-in-put}
+use Rattle.numbers.specs.Sums.{only, sum-in}
+use Rattle.numbers.proofs.Sums.{sum-same, sum-change}
 use Rattle.rooms.specs.Room.{side, crossing}
-use Rattle.rooms.specs.Move.{Pushed, Handed, Less, Paid, MovedOn}
-use Rattle.engine.specs.Sweep.{Swept}
+use Rattle.rooms.specs.Move.{Pushed, Less}
 
 only-add : (t : Bool) (a b : ℕ) → only t (a + b) ≡ only t a + only t b
 only-add true a b = refl
@@ -34,24 +33,6 @@ module _ (n : ℕ) (S : ℕ → Bool) where
     ap (only (S y)) (h .given),
     only-add (S y) (u′ y) d,
   )
-
-  pub sum-in-handed : (u u′ : ℕ → ℕ) (from to d : ℕ) → from < n → to < n → (from ≡ to → ⊥) → Handed u u′ from to d
-      → sum-in n S u′ + only (S from) d ≡ sum-in n S u + only (S to) d
-  sum-in-handed u u′ from to d lf lt ne h = omega (
-    arith,
-    sum-in-put n S u from (u′ from) lf,
-    sum-in-change n S u′ (put u from (u′ from)) to lt between,
-    ap (only (S to)) (put-elsewhere u from (u′ from) to (λ e. ne (sym e))),
-    ap (only (S from)) (h .given),
-    only-add (S from) (u′ from) d,
-    ap (only (S to)) (h .taken),
-    only-add (S to) (u to) d,
-  )
-    where
-      between : (i : ℕ) → i < n → (i ≡ to → ⊥) → u′ i ≡ put u from (u′ from) i
-      between i l nt = by-cases (ℕ-discrete i from)
-          (λ e. rw e (sym (put-there u from (u′ from))))
-          (λ nf. h .elsewhere i nf nt ∙ sym (put-elsewhere u from (u′ from) i nf))
 
 -- ---- rooms
 
@@ -138,64 +119,3 @@ module _ (n : ℕ) (few : n ≤ side) {room room′ : ℕ → ℕ → ℕ} {x y 
         h .elsewhere i j (omega arith) (omega arith) a b,
         h .elsewhere j i (omega arith) (omega arith) (λ e f. b f e) (λ e f. a f e),
       )
-
-  -- the only room that shrinks leads from x to y
-  pub rooms-pushed : (i j : ℕ) → i < n → j < n → (i ≡ x → j ≡ y → ⊥) → room i j ≤ room′ i j
-  rooms-pushed i j li lj away = by-cases (ℕ-discrete i y)
-      (λ ei. by-cases (ℕ-discrete j x)
-      (λ ej. rw (ei, ej) (omega (arith, h .back)))
-      (λ nx. omega (arith, h .elsewhere i j (omega arith) (omega arith) away (λ e. nx))))
-      (λ ny. omega (arith, h .elsewhere i j (omega arith) (omega arith) away (λ e. absurd (ny e))))
-
--- ---- turns
-
--- what is handed on lacks at one node less and at the other more
-handed-stays : {u u′ : ℕ → ℕ} {from to d : ℕ} → Handed u u′ from to d → (z : ℕ) → (z ≡ from → ⊥) → u z ≤ u′ z
-handed-stays {u} {u′} {from} {to} {d} h z ne = by-cases (ℕ-discrete z to)
-    (λ e. rw e (omega (arith, h .taken)))
-    (λ nt. omega (arith, h .elsewhere z ne nt))
-
-module _ (n : ℕ) (few : n ≤ side) where
-  pub moved-swept : {room room′ : ℕ → ℕ → ℕ} {over under under′ : ℕ → ℕ} {x y : ℕ} → x < n → y < n → (x ≡ y → ⊥)
-      → MovedOn room under room′ under′ x y → Swept n room over under room′ over under′ y
-  moved-swept {room} {room′} {over} {under} {under′} {x} {y} lx ly ne m = record {
-    kept = record {
-      account = λ S. by S (S x) (S y) (crossing-pushed n few lx ly ne (m .pushed) S) (sum-in-handed n S under under′ y x (m .amount) ly lx (λ e. ne (sym e)) (m .handed));
-      pairs = pairs-pushed n few lx ly ne (m .pushed);
-      over-falls = λ v l. omega arith;
-      under-falls = omega (arith, sum-in-handed n (λ v. true) under under′ y x (m .amount) ly lx (λ e. ne (sym e)) (m .handed));
-    };
-    under-stays = λ z l. handed-stays (m .handed) z;
-    over-stays = λ z l away. omega arith;
-  }
-    where
-      by : (S : ℕ → Bool) (s t : Bool)
-          → crossing n room′ S + only s (only (not t) (m .amount)) ≡ crossing n room S + only t (only (not s) (m .amount))
-          → sum-in n S under′ + only t (m .amount) ≡ sum-in n S under + only s (m .amount)
-          → crossing n room S + sum-in n S under + sum-in n S over ≡ crossing n room′ S + sum-in n S under′ + sum-in n S over
-      by S true true a b = omega arith
-      by S true false a b = omega arith
-      by S false true a b = omega arith
-      by S false false a b = omega arith
-
-  pub paid-swept : {room : ℕ → ℕ → ℕ} {over under over′ under′ : ℕ → ℕ} {y : ℕ} → y < n
-      → Paid over under over′ under′ y → Swept n room over under room over′ under′ y
-  paid-swept {room} {over} {under} {over′} {under′} {y} l m = record {
-    kept = record {
-      account = λ S. omega (arith, sum-in-less n S over over′ y (m .amount) l (m .over-less), sum-in-less n S under under′ y (m .amount) l (m .under-less));
-      pairs = λ i j li lj. refl;
-      over-falls = λ v lv. fallen (m .over-less) v;
-      under-falls = omega (arith, sum-in-less n (λ v. true) under under′ y (m .amount) l (m .under-less));
-    };
-    under-stays = λ z lz away. omega (arith, m .under-less .elsewhere z away);
-    over-stays = λ z lz away. omega (arith, m .over-less .elsewhere z away);
-  }
-    where
-      fallen : {u u′ : ℕ → ℕ} {d : ℕ} → Less u u′ y d → (v : ℕ) → u′ v ≤ u v
-      fallen {u} {u′} {d} h v = by-cases (ℕ-discrete v y) (λ e. rw e (omega (arith, h .given))) (λ ne. omega (arith, h .elsewhere v ne))
-
-  -- something is paid where something is both over and under
-  pub paid-falls : {over under over′ under′ : ℕ → ℕ} {y : ℕ} → y < n → Paid over under over′ under′ y → 0 < over y → 0 < under y
-      → sum n over′ < sum n over
-  paid-falls {over} {under} {over′} {under′} {y} l m o u =
-      omega (arith, m .some o u, sum-in-less n (λ v. true) over over′ y (m .amount) l (m .over-less))

@@ -1,2 +1,3 @@
 pub mod Account
-pub mod Sweeping
+pub mod Moving
+pub mod Settling

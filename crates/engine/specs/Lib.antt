@@ -1,3 +1,3 @@
--- What a sweep does, and what settling leaves.
-pub mod Sweep
+-- Moving along a path, and what settling leaves.
+pub mod Path
 pub mod Settle

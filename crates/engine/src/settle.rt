@@ -1,76 +1,176 @@
-// Settling: searches and sweeps by turns, until nothing that is over can reach what lacks.
-use crate::sweep::sweep;
+// Settling: what is over is delivered along paths to where it lacks, until none of it gets there.
+use crate::path::least;
+use crate::path::move_along;
+use reach::Found;
 use reach::search;
+use reach::trail;
 use rooms::Rooms;
-ghost use Prim.Native.Nat.{ℕ, _≤_, _<_};
+use rooms::lesser;
+use rooms::take;
+use words::but;
+use words::either;
+use words::one;
+ghost use mathlib.Core.Path.{_≡_};
+ghost use mathlib.Core.Bool.{false, not};
+ghost use Prim.Native.Nat.{ℕ, _+_, _≤_, _<_};
 ghost use lib.ListN.{length};
 ghost use Rattle.words.specs.Word.{holds};
-ghost use Rattle.rooms.specs.Room.{at, seen, Small, Lent};
-ghost use Rattle.reach.specs.Searched.{Desk};
-ghost use Rattle.engine.specs.Sweep.{FirstLack};
-ghost use Rattle.engine.specs.Settle.{Settled};
+ghost use Rattle.rooms.specs.Room.{side, at, seen};
+ghost use Rattle.rooms.specs.Move.{Less};
+ghost use Rattle.ways.specs.Ways.{leads, Desk};
+ghost use Rattle.engine.specs.Settle.{Shows, Settled, Errand, Delivery, Delivered};
 
-// The first place of the order where something lacks, or the count.
-fn first_lack(under: &[u32], order: &[u8], count: usize) -> usize
-    requires { ⌜ (count ≤ length (now order)) × ((j : ℕ) → j < count → at (now order) j < length (now under)) ⌝ }
-    ensures { λ r. ⌜ FirstLack (at (now (under .entry))) (at (now (order .entry))) count r ⌝ }
+// The set of the nodes that have some.
+fn word_of(numbers: &[u32], n: usize) -> u64
+    requires { ⌜ (n ≤ side) × (n ≤ length (now numbers)) ⌝ }
+    ensures { λ r. ⌜ Shows n (at (now (numbers .entry))) r ⌝ }
 {
-    let mut j = 0;
-    while j < count {
-        let x = order[j] as usize;
-        if 0 < under[x] {
-            return j;
+    let mut word: u64 = 0;
+    let mut x = 0;
+    while x < n {
+        if 0 < numbers[x] {
+            word = either(word, one(x));
         }
-        j += 1;
+        x += 1;
     }
-    j
+    word
 }
 
-// Settles on a desk that is lent: room for the search's order and finders.
+// Takes d off the number at x, and x out of the set where none is left.
+fn spend(numbers: &mut [u32], word: u64, x: usize, d: u32) -> u64
+    requires { ⌜ (x < side) × (x < length (now numbers)) × (d ≤ at (now numbers) x) ⌝ }
+    ensures less { λ r. ⌜ Less (at (now (numbers .entry))) (at (now (numbers .exit))) x d ⌝ }
+    ensures shows { λ r. ⌜ ((n : ℕ) → Shows n (at (now (numbers .entry))) word → x < n → Shows n (at (now (numbers .exit))) r) ⌝ }
+{
+    take(numbers, x, d);
+    if numbers[x] == 0 {
+        return but(word, one(x));
+    }
+    word
+}
+
+// How long a path is and whether there is one; if not, what was reached.
+struct Way {
+    depth: usize,
+    found: bool,
+    set: u64,
+}
+
+// Looks for a path from where some is over to where it lacks.
+fn errand(ways: &[u64], spare: u64, lack: u64, levels: &mut [u64], path: &mut [u8]) -> Way
+    requires whole { ⌜ (side + side ≤ length (now ways)) × (side < length (now levels)) × (side < length (now path)) ⌝ }
+    requires turned { ⌜ ((x y : ℕ) → x < side → y < side → leads (now ways) (not false) y x ≡ leads (now ways) false x y) ⌝ }
+    ensures { λ r. ⌜ Errand (leads (now (ways .entry)) false) spare lack (at (now (path .exit))) (r .depth) (r .set) (r .found) ⌝ }
+{
+    let sought = search(ways, false, Rooms::SIDE, Rooms::SIDE, spare, lack, levels);
+    let depth = sought.depth;
+    let met = sought.met;
+    let set = sought.reached;
+    if met == 0 {
+        return Way {
+            depth,
+            found: false,
+            set,
+        };
+    }
+    trail(
+        ways,
+        false,
+        Rooms::SIDE,
+        Rooms::SIDE,
+        levels,
+        depth,
+        met,
+        path,
+    );
+    Way {
+        depth,
+        found: true,
+        set,
+    }
+}
+
+// Where some is over and where it lacks.
+struct Ends {
+    spare: u64,
+    lack: u64,
+}
+
+// Delivers as much as can be along a path.
+fn deliver(
+    rooms: &mut [u32],
+    ways: &mut [u64],
+    n: usize,
+    over: &mut [u32],
+    under: &mut [u32],
+    path: &[u8],
+    depth: usize,
+    spare: u64,
+    lack: u64,
+) -> Ends
+    requires desk { ⌜ Desk n (now rooms) (now ways) ⌝ }
+    requires lists { ⌜ (n ≤ length (now over)) × (n ≤ length (now under)) × (depth < length (now path)) ⌝ }
+    requires path { ⌜ Delivery n (seen (now rooms) false) (at (now over)) (at (now under)) (at (now path)) depth ⌝ }
+    requires shown { ⌜ Shows n (at (now over)) spare × Shows n (at (now under)) lack ⌝ }
+    ensures desk { λ r. ⌜ Desk n (now (rooms .exit)) (now (ways .exit)) ⌝ }
+    ensures delivered { λ r. ⌜ Delivered n (seen (now (rooms .entry)) false) (at (now (over .entry))) (at (now (under .entry))) (seen (now (rooms .exit)) false) (at (now (over .exit))) (at (now (under .exit))) ⌝ }
+    ensures shown { λ r. ⌜ Shows n (at (now (over .exit))) (r .spare) × Shows n (at (now (under .exit))) (r .lack) ⌝ }
+{
+    let s = path[0] as usize;
+    let t = path[depth] as usize;
+    let d = least(rooms, false, path, depth, lesser(over[s], under[t]));
+    move_along(rooms, ways, false, path, depth, d);
+    let left = spend(over, spare, s, d);
+    let lacks = spend(under, lack, t, d);
+    Ends {
+        spare: left,
+        lack: lacks,
+    }
+}
+
+// Settles with levels and a path that are lent for the search.
 fn settle_on(
     rooms: &mut [u32],
-    back: bool,
+    ways: &mut [u64],
+    n: usize,
     over: &mut [u32],
     under: &mut [u32],
-    n: usize,
-    u: usize,
-    v: usize,
-    order: &mut [u8],
-    finder: &mut [u8],
+    levels: &mut [u64],
+    path: &mut [u8],
 ) -> u64
-    requires lent { ⌜ Lent n (now rooms) (now over) (now under) ⌝ }
-    requires small { ⌜ Small n (seen (now rooms) back) (at (now under)) ⌝ }
-    requires desk { ⌜ Desk n (now order) (now finder) ⌝ }
-    ensures { λ r. ⌜ Settled n (seen (now (rooms .entry)) back) (at (now (over .entry))) (at (now (under .entry))) (seen (now (rooms .exit)) back) (at (now (over .exit))) (at (now (under .exit))) u v (holds r) ⌝ }
+    requires desk { ⌜ Desk n (now rooms) (now ways) ⌝ }
+    requires lists { ⌜ (n ≤ length (now over)) × (n ≤ length (now under)) × (side < length (now levels)) × (side < length (now path)) ⌝ }
+    ensures desk { λ r. ⌜ Desk n (now (rooms .exit)) (now (ways .exit)) ⌝ }
+    ensures settled { λ r. ⌜ Settled n (seen (now (rooms .entry)) false) (at (now (over .entry))) (at (now (under .entry))) (seen (now (rooms .exit)) false) (at (now (over .exit))) (at (now (under .exit))) (holds r) ⌝ }
 {
+    let mut spare = word_of(over, n);
+    let mut lack = word_of(under, n);
     loop {
-        let found = search(rooms, back, over, n, u, v, order, finder);
-        let starts = found.starts;
-        let count = found.count;
-        if count <= first_lack(under, order, count) {
-            return found.reached;
+        let way = errand(ways, spare, lack, levels, path);
+        let depth = way.depth;
+        if !way.found {
+            return way.set;
         }
-        sweep(rooms, back, over, under, n, order, finder, starts, count);
+        let ends = deliver(rooms, ways, n, over, under, path, depth, spare, lack);
+        spare = ends.spare;
+        lack = ends.lack;
     }
 }
 
-// Moves what is over to what lacks, through the rooms and without the direct step from u to v, until
-// nothing more can move. Returns the reach of what is still over. Looked at backwards, what is over and
-// what lacks change places with each other and each room with the room back: the caller lends them so.
+// Moves what is over to where it lacks, until none of it gets there. Returns what it still reaches.
 pub fn settle(
     rooms: &mut [u32],
-    back: bool,
+    ways: &mut [u64],
+    n: usize,
     over: &mut [u32],
     under: &mut [u32],
-    n: usize,
-    u: usize,
-    v: usize,
 ) -> u64
-    requires lent { ⌜ Lent n (now rooms) (now over) (now under) ⌝ }
-    requires small { ⌜ Small n (seen (now rooms) back) (at (now under)) ⌝ }
-    ensures { λ r. ⌜ Settled n (seen (now (rooms .entry)) back) (at (now (over .entry))) (at (now (under .entry))) (seen (now (rooms .exit)) back) (at (now (over .exit))) (at (now (under .exit))) u v (holds r) ⌝ }
+    requires desk { ⌜ Desk n (now rooms) (now ways) ⌝ }
+    requires lists { ⌜ (n ≤ length (now over)) × (n ≤ length (now under)) ⌝ }
+    ensures desk { λ r. ⌜ Desk n (now (rooms .exit)) (now (ways .exit)) ⌝ }
+    ensures settled { λ r. ⌜ Settled n (seen (now (rooms .entry)) false) (at (now (over .entry))) (at (now (under .entry))) (seen (now (rooms .exit)) false) (at (now (over .exit))) (at (now (under .exit))) (holds r) ⌝ }
 {
-    let mut order = [0u8; Rooms::SIDE];
-    let mut finder = [0u8; Rooms::SIDE];
-    settle_on(rooms, back, over, under, n, u, v, &mut order, &mut finder)
+    let mut levels = [0u64; Found::LEVELS];
+    let mut path = [0u8; Found::PATH];
+    settle_on(rooms, ways, n, over, under, &mut levels, &mut path)
 }

@@ -60,10 +60,10 @@ listed-held arcs supplies k count = record {
   high-is = λ i l. refl;
 }
 
-pub fixing-standing : {arcs : List ℕ} {supplies : List ℤ} {k count i : ℕ} {p : Plan} {f : ℕ → ℕ} {room : ℕ → ℕ → ℕ} {over under : ℕ → ℕ}
-    → i < length arcs / arc-entries → Fixing arcs supplies k count i p f room over under
+pub fixing-standing : {arcs : List ℕ} {supplies : List ℤ} {k count i : ℕ} {p : Plan} {f : ℕ → ℕ} {room : ℕ → ℕ → ℕ}
+    → i < length arcs / arc-entries → Fixing arcs supplies k count i p f room
     → Standing (fixed p f i) i (length supplies) (plan-of arcs supplies .from i) (plan-of arcs supplies .to i)
-    (put (plan-of arcs supplies .low) k count i) (put (plan-of arcs supplies .high) k count i) room over under
+    (put (plan-of arcs supplies .low) k count i) (put (plan-of arcs supplies .high) k count i) room
 fixing-standing {i = i} {p = p} {f = f} l x =
     let there : i < p .arcs = omega (arith, l, x .listed .arcs-are) in
     record {
@@ -88,21 +88,21 @@ fixed-agree p f g i same = λ t. limited p (λ j. both (p .low) j t) (λ j. both
         by true e = same j (ltb-true j i e)
         by false e = refl
 
-pub record FirstSoFar (p : Plan) (counts₀ counts : List ℕ) (i : ℕ) (room : ℕ → ℕ → ℕ) (over under : ℕ → ℕ) : Type 0 where
+pub record FirstSoFar (p : Plan) (counts₀ counts : List ℕ) (i : ℕ) (room : ℕ → ℕ → ℕ) : Type 0 where
   pub smallest : (j : ℕ) → j < i → Smallest (fixed p (at counts) j) j (at counts j)
-  pub ready : Ready (fixed p (at counts) i) room over under
+  pub ready : Ready (fixed p (at counts) i) room
   pub past : (j : ℕ) → i ≤ j → at counts j ≡ at counts₀ j
 
-pub first-begins : {p : Plan} {counts : List ℕ} {room : ℕ → ℕ → ℕ} {over under : ℕ → ℕ} → Ready p room over under
-    → FirstSoFar p counts counts 0 room over under
-first-begins {p} {counts} {room} {over} {under} y = record {
+pub first-begins : {p : Plan} {counts : List ℕ} {room : ℕ → ℕ → ℕ} → Ready p room
+    → FirstSoFar p counts counts 0 room
+first-begins {p} {counts} {room} y = record {
   smallest = λ j l. absurd (omega arith);
-  ready = subst (λ q. Ready q room over under) (sym (fixed-start-plan p (at counts))) y;
+  ready = subst (λ q. Ready q room) (sym (fixed-start-plan p (at counts))) y;
   past = λ j l. refl;
 }
 
-module _ {p : Plan} {counts₀ counts : List ℕ} {i : ℕ} {room : ℕ → ℕ → ℕ} {over under : ℕ → ℕ} (w : WellFormed p) (l : i ≤ p .arcs)
-    (s : FirstSoFar p counts₀ counts i room over under) where
+module _ {p : Plan} {counts₀ counts : List ℕ} {i : ℕ} {room : ℕ → ℕ → ℕ} (w : WellFormed p) (l : i ≤ p .arcs)
+    (s : FirstSoFar p counts₀ counts i room) where
   -- each count lies in its arc's own range
   within : (j : ℕ) → j < i → Possible (fixed p (at counts) j) j (at counts j)
   within j lj = smallest-possible (omega arith) (s .smallest j lj)
@@ -112,8 +112,8 @@ module _ {p : Plan} {counts₀ counts : List ℕ} {i : ℕ} {room : ℕ → ℕ 
       (λ j lj la. omega (arith, within j lj .least, own-low p (at counts) j))
       (λ j lj la. omega (arith, within j lj .most, own-high p (at counts) j))
 
-  module _ {room′ : ℕ → ℕ → ℕ} {over′ under′ : ℕ → ℕ} (r : ℕ) (fits : i < length counts)
-      (found : Smallest (fixed p (at counts) i) i r) (y : Ready (held (fixed p (at counts) i) i r) room′ over′ under′) where
+  module _ {room′ : ℕ → ℕ → ℕ} (r : ℕ) (fits : i < length counts)
+      (found : Smallest (fixed p (at counts) i) i r) (y : Ready (held (fixed p (at counts) i) i r) room′) where
     abbrev more : List ℕ
     more = set counts i r
 
@@ -135,16 +135,16 @@ module _ {p : Plan} {counts₀ counts : List ℕ} {i : ℕ} {room : ℕ → ℕ 
     next : fixed p (at more) (suc i) ≡ held (fixed p (at counts) i) i r
     next = sym (fixed-next-plan p (at more) i) ∙ ap₂ (λ q c. held q i c) (sym (same-plan i (omega arith))) here
 
-    pub first-goes-on : FirstSoFar p counts₀ more (i + 1) room′ over′ under′
+    pub first-goes-on : FirstSoFar p counts₀ more (i + 1) room′
     first-goes-on = record {
       smallest = λ j lj. each j (omega arith);
       ready = rw (add-one i, next) y;
       past = λ j lj. getD-set-other counts i j r 0 (λ e. omega arith) ∙ s .past j (omega arith);
     }
 
-pub first-ends : {p : Plan} {counts₀ counts : List ℕ} {i : ℕ} {room : ℕ → ℕ → ℕ} {over under : ℕ → ℕ} → WellFormed p → i ≡ p .arcs
-    → FirstSoFar p counts₀ counts i room over under → FirstFlow p (at counts)
-first-ends {p} {counts₀} {counts} {i} {room} {over} {under} w all s =
-    let done : FirstSoFar p counts₀ counts (p .arcs) room over under = subst (λ m. FirstSoFar p counts₀ counts m room over under) all s in
+pub first-ends : {p : Plan} {counts₀ counts : List ℕ} {i : ℕ} {room : ℕ → ℕ → ℕ} → WellFormed p → i ≡ p .arcs
+    → FirstSoFar p counts₀ counts i room → FirstFlow p (at counts)
+first-ends {p} {counts₀} {counts} {i} {room} w all s =
+    let done : FirstSoFar p counts₀ counts (p .arcs) room = subst (λ m. FirstSoFar p counts₀ counts m room) all s in
     let flows = ready-flow (first-well-formed w (omega arith) done) (done .ready) in
     first-flow-by-arcs p (at counts) (done .smallest) (flows .0) (flows .1)

@@ -20,7 +20,7 @@ pub record Listed (arcs : List ℕ) (supplies : List ℤ) (k count : ℕ) (p : P
   pub high-is : (i : ℕ) → i < p .arcs → p .high i ≡ put (plan-of arcs supplies .high) k count i
 
 -- the arcs before i of a listed plan are held at f, and the plan stands ready so
-pub record Fixing (arcs : List ℕ) (supplies : List ℤ) (k count i : ℕ) (p : Plan) (f : ℕ → ℕ) (room : ℕ → ℕ → ℕ) (over under : ℕ → ℕ) : Type 0 where
+pub record Fixing (arcs : List ℕ) (supplies : List ℤ) (k count i : ℕ) (p : Plan) (f : ℕ → ℕ) (room : ℕ → ℕ → ℕ) : Type 0 where
   pub listed : Listed arcs supplies k count p
   pub well-formed : WellFormed (fixed p f i)
-  pub ready : Ready (fixed p f i) room over under
+  pub ready : Ready (fixed p f i) room

@@ -12,7 +12,8 @@ ghost use mathlib.Core.List.{List};
 ghost use lib.IntN.{ℤ};
 ghost use lib.ListN.{length};
 ghost use Rattle.numbers.specs.Sums.{put};
-ghost use Rattle.rooms.specs.Room.{at, seen, Lent};
+ghost use Rattle.rooms.specs.Room.{at, seen};
+ghost use Rattle.ways.specs.Ways.{Desk};
 ghost use Rattle.plan.specs.Limits.{arc-entries};
 ghost use Rattle.plan.specs.Plan.{Plan, WellFormed, plan-of};
 ghost use Rattle.plan.specs.Flow.{FirstFlow, Smallest, held, fixed};
@@ -39,20 +40,20 @@ fn fix(
     count: u32,
     i: usize,
     rooms: &mut [u32],
-    over: &mut [u32],
-    under: &mut [u32],
+    ways: &mut [u64],
 ) -> u32
-    requires lent { ⌜ Lent (length (now supplies)) (now rooms) (now over) (now under) ⌝ }
+    requires desk { ⌜ Desk (length (now supplies)) (now rooms) (now ways) ⌝ }
     requires arc { ⌜ i < length (now arcs) / arc-entries ⌝ }
-    requires ready { ⌜ ((p : Plan) × ((f : ℕ → ℕ) × Fixing (now arcs) (now supplies) k count i p f (seen (now rooms) false) (at (now over)) (at (now under)))) ⌝ }
-    ensures { λ r. ⌜ ((p : Plan) (f : ℕ → ℕ) → Fixing (now (arcs .entry)) (now (supplies .entry)) k count i p f (seen (now (rooms .entry)) false) (at (now (over .entry))) (at (now (under .entry))) → Smallest (fixed p f i) i r × Ready (held (fixed p f i) i r) (seen (now (rooms .exit)) false) (at (now (over .exit))) (at (now (under .exit)))) ⌝ }
+    requires ready { ⌜ ((p : Plan) × ((f : ℕ → ℕ) × Fixing (now arcs) (now supplies) k count i p f (seen (now rooms) false))) ⌝ }
+    ensures desk { λ r. ⌜ Desk (length (now (supplies .entry))) (now (rooms .exit)) (now (ways .exit)) ⌝ }
+    ensures fixed { λ r. ⌜ ((p : Plan) (f : ℕ → ℕ) → Fixing (now (arcs .entry)) (now (supplies .entry)) k count i p f (seen (now (rooms .entry)) false) → Smallest (fixed p f i) i r × Ready (held (fixed p f i) i r) (seen (now (rooms .exit)) false)) ⌝ }
 {
     let arc = arc_held_at(arcs, k, count, i);
     let n = supplies.len();
     let from = arc.from as usize;
     let to = arc.to as usize;
-    let least = end_of(rooms, false, over, under, n, from, to, arc.low, arc.high);
-    hold_at(rooms, over, under, n, from, to, arc.low, arc.high, least);
+    let least = end_of(rooms, ways, false, n, from, to, arc.low, arc.high);
+    hold_at(rooms, ways, n, from, to, arc.low, arc.high, least);
     least
 }
 
@@ -65,19 +66,18 @@ pub fn first_flow(
     count: u32,
     counts: &mut [u32],
     rooms: &mut [u32],
-    over: &mut [u32],
-    under: &mut [u32],
+    ways: &mut [u64],
 )
-    requires lent { ⌜ Lent (length (now supplies)) (now rooms) (now over) (now under) ⌝ }
+    requires desk { ⌜ Desk (length (now supplies)) (now rooms) (now ways) ⌝ }
     requires whole { ⌜ length (now arcs) / arc-entries ≤ length (now counts) ⌝ }
-    requires ready { ⌜ ((p : Plan) × (Listed (now arcs) (now supplies) k count p × WellFormed p × Ready p (seen (now rooms) false) (at (now over)) (at (now under)))) ⌝ }
-    ensures first { λ r. ⌜ ((p : Plan) → Listed (now (arcs .entry)) (now (supplies .entry)) k count p → WellFormed p → Ready p (seen (now (rooms .entry)) false) (at (now (over .entry))) (at (now (under .entry))) → FirstFlow p (at (now (counts .exit)))) ⌝ }
+    requires ready { ⌜ ((p : Plan) × (Listed (now arcs) (now supplies) k count p × WellFormed p × Ready p (seen (now rooms) false))) ⌝ }
+    ensures first { λ r. ⌜ ((p : Plan) → Listed (now (arcs .entry)) (now (supplies .entry)) k count p → WellFormed p → Ready p (seen (now (rooms .entry)) false) → FirstFlow p (at (now (counts .exit)))) ⌝ }
     ensures past { λ r. ⌜ ((j : ℕ) → length (now (arcs .entry)) / arc-entries ≤ j → at (now (counts .exit)) j ≡ at (now (counts .entry)) j) ⌝ }
 {
     let total = arcs.len() / Arc::ENTRIES;
     let mut i = 0;
     while i < total {
-        counts[i] = fix(arcs, supplies, k, count, i, rooms, over, under);
+        counts[i] = fix(arcs, supplies, k, count, i, rooms, ways);
         i += 1;
     }
 }

@@ -11,6 +11,7 @@ use plan::Verdict;
 use rooms::Rooms;
 use stand::Asked;
 use stand::ask::ask;
+use ways::Words;
 ghost use Prim.Native.Nat.{_≤_, _/_};
 ghost use lib.ListN.{length};
 ghost use Rattle.plan.specs.Limits.{arc-entries};
@@ -18,21 +19,20 @@ ghost use Rattle.plan.specs.Plan.{WellFormed, plan-of};
 ghost use Rattle.stand.specs.Desk.{EmptyDesk};
 ghost use Rattle.flow.specs.Answer.{Told, FlowAnswers};
 
-// Works a well-formed plan out on a desk that is lent: rooms, over and under hold zeros.
+// Works a well-formed plan out on a desk that is lent: rooms and words hold zeros.
 fn work_out_on(
     arcs: &[u32],
     supplies: &[i32],
     arc_buffer: &mut [u32],
     node_buffer: &mut [u8],
     rooms: &mut [u32],
-    over: &mut [u32],
-    under: &mut [u32],
+    ways: &mut [u64],
 ) -> Asked
-    requires desk { ⌜ EmptyDesk (now arcs) (now supplies) (now rooms) (now over) (now under) ⌝ }
+    requires desk { ⌜ EmptyDesk (now arcs) (now supplies) (now rooms) (now ways) ⌝ }
     requires whole { ⌜ (length (now arcs) / arc-entries ≤ length (now «arc_buffer»)) × (length (now supplies) ≤ length (now «node_buffer»)) ⌝ }
     ensures { λ r. ⌜ Told (plan-of (now (arcs .entry)) (now (supplies .entry))) (now («arc_buffer» .entry)) (now («node_buffer» .entry)) (now («arc_buffer» .exit)) (now («node_buffer» .exit)) r ⌝ }
 {
-    let outcome = ask(arcs, supplies, rooms, over, under);
+    let outcome = ask(arcs, supplies, rooms, ways);
     let asked = outcome.asked;
     let Asked::Lacks(value) = asked else {
         first_flow(
@@ -42,8 +42,7 @@ fn work_out_on(
             0,
             arc_buffer,
             rooms,
-            over,
-            under,
+            ways,
         );
         return Asked::Balances;
     };
@@ -59,16 +58,14 @@ fn work_out(arcs: &[u32], supplies: &[i32], arc_buffer: &mut [u32], node_buffer:
     ensures { λ r. ⌜ Told (plan-of (now (arcs .entry)) (now (supplies .entry))) (now («arc_buffer» .entry)) (now («node_buffer» .entry)) (now («arc_buffer» .exit)) (now («node_buffer» .exit)) r ⌝ }
 {
     let mut rooms = [0u32; Rooms::CELLS];
-    let mut over = [0u32; Plan::MOST_NODES];
-    let mut under = [0u32; Plan::MOST_NODES];
+    let mut ways = [0u64; Words::COUNT];
     work_out_on(
         arcs,
         supplies,
         arc_buffer,
         node_buffer,
         &mut rooms,
-        &mut over,
-        &mut under,
+        &mut ways,
     )
 }
 

@@ -10,12 +10,14 @@ use rooms::Rooms;
 use stand::Asked;
 use stand::ask::ask;
 use stand::build::arc_at;
+use ways::Words;
 ghost use mathlib.Core.Path.{_≡_};
 ghost use mathlib.Core.Bool.{true, false, _||_};
 ghost use Prim.Native.Nat.{_≤_, _<_, _/_};
 ghost use lib.Dec.{ltb};
 ghost use lib.ListN.{length};
-ghost use Rattle.rooms.specs.Room.{at, seen};
+ghost use Rattle.rooms.specs.Room.{seen};
+ghost use Rattle.ways.specs.Ways.{Desk};
 ghost use Rattle.plan.specs.Limits.{arc-entries};
 ghost use Rattle.plan.specs.Plan.{WellFormed, plan-of};
 ghost use Rattle.plan.specs.Flow.{OutsideRange, held};
@@ -41,19 +43,19 @@ fn hold_arc(
     k: usize,
     count: u32,
     rooms: &mut [u32],
-    over: &mut [u32],
-    under: &mut [u32],
+    ways: &mut [u64],
 )
-    requires ready { ⌜ ReadyDesk (now arcs) (now supplies) (now rooms) (now over) (now under) ⌝ }
+    requires ready { ⌜ ReadyDesk (now arcs) (now supplies) (now rooms) (now ways) ⌝ }
     requires arc { ⌜ k < length (now arcs) / arc-entries ⌝ }
     requires possible { ⌜ Possible (plan-of (now arcs) (now supplies)) k count ⌝ }
-    ensures { λ r. ⌜ Ready (held (plan-of (now (arcs .entry)) (now (supplies .entry))) k count) (seen (now (rooms .exit)) false) (at (now (over .exit))) (at (now (under .exit))) ⌝ }
+    ensures desk { λ r. ⌜ Desk (length (now (supplies .entry))) (now (rooms .exit)) (now (ways .exit)) ⌝ }
+    ensures held { λ r. ⌜ Ready (held (plan-of (now (arcs .entry)) (now (supplies .entry))) k count) (seen (now (rooms .exit)) false) ⌝ }
 {
     let arc = arc_at(arcs, k);
     let n = supplies.len();
     let from = arc.from as usize;
     let to = arc.to as usize;
-    hold_at(rooms, over, under, n, from, to, arc.low, arc.high, count);
+    hold_at(rooms, ways, n, from, to, arc.low, arc.high, count);
 }
 
 // Whether the count lies outside the narrowed range of arc k, in a plan that stands ready.
@@ -63,17 +65,16 @@ fn out_of_range(
     k: usize,
     count: u32,
     rooms: &mut [u32],
-    over: &mut [u32],
-    under: &mut [u32],
+    ways: &mut [u64],
 ) -> bool
-    requires ready { ⌜ ReadyDesk (now arcs) (now supplies) (now rooms) (now over) (now under) ⌝ }
+    requires ready { ⌜ ReadyDesk (now arcs) (now supplies) (now rooms) (now ways) ⌝ }
     requires arc { ⌜ k < length (now arcs) / arc-entries ⌝ }
     ensures outside { λ r. ⌜ (r ≡ true → OutsideRange (plan-of (now (arcs .entry)) (now (supplies .entry))) k count) ⌝ }
     ensures possible { λ r. ⌜ (r ≡ false → Possible (plan-of (now (arcs .entry)) (now (supplies .entry))) k count) ⌝ }
-    ensures ready { λ r. ⌜ ReadyDesk (now (arcs .entry)) (now (supplies .entry)) (now (rooms .exit)) (now (over .exit)) (now (under .exit)) ⌝ }
+    ensures ready { λ r. ⌜ ReadyDesk (now (arcs .entry)) (now (supplies .entry)) (now (rooms .exit)) (now (ways .exit)) ⌝ }
 {
-    let low = end_for(arcs, supplies, k, false, rooms, over, under);
-    let high = end_for(arcs, supplies, k, true, rooms, over, under);
+    let low = end_for(arcs, supplies, k, false, rooms, ways);
+    let high = end_for(arcs, supplies, k, true, rooms, ways);
     outside(count, low, high)
 }
 
@@ -85,17 +86,16 @@ fn write_held(
     count: u32,
     arc_buffer: &mut [u32],
     rooms: &mut [u32],
-    over: &mut [u32],
-    under: &mut [u32],
+    ways: &mut [u64],
 )
-    requires ready { ⌜ ReadyDesk (now arcs) (now supplies) (now rooms) (now over) (now under) ⌝ }
+    requires ready { ⌜ ReadyDesk (now arcs) (now supplies) (now rooms) (now ways) ⌝ }
     requires arc { ⌜ k < length (now arcs) / arc-entries ⌝ }
     requires whole { ⌜ length (now arcs) / arc-entries ≤ length (now «arc_buffer») ⌝ }
     requires possible { ⌜ Possible (plan-of (now arcs) (now supplies)) k count ⌝ }
     ensures { λ r. ⌜ Flowing (plan-of (now (arcs .entry)) (now (supplies .entry))) k count (now («arc_buffer» .entry)) (now («arc_buffer» .exit)) ⌝ }
 {
-    hold_arc(arcs, supplies, k, count, rooms, over, under);
-    first_flow(arcs, supplies, k, count, arc_buffer, rooms, over, under);
+    hold_arc(arcs, supplies, k, count, rooms, ways);
+    first_flow(arcs, supplies, k, count, arc_buffer, rooms, ways);
 }
 
 // Writes the first flow with the count on arc k, in a plan that stands ready, unless none has it.
@@ -106,22 +106,21 @@ fn hold_and_write(
     count: u32,
     arc_buffer: &mut [u32],
     rooms: &mut [u32],
-    over: &mut [u32],
-    under: &mut [u32],
+    ways: &mut [u64],
 ) -> Answer
-    requires ready { ⌜ ReadyDesk (now arcs) (now supplies) (now rooms) (now over) (now under) ⌝ }
+    requires ready { ⌜ ReadyDesk (now arcs) (now supplies) (now rooms) (now ways) ⌝ }
     requires arc { ⌜ k < length (now arcs) / arc-entries ⌝ }
     requires whole { ⌜ length (now arcs) / arc-entries ≤ length (now «arc_buffer») ⌝ }
     ensures { λ r. ⌜ Told (plan-of (now (arcs .entry)) (now (supplies .entry))) k count (now («arc_buffer» .entry)) (now («arc_buffer» .exit)) r ⌝ }
 {
-    if out_of_range(arcs, supplies, k, count, rooms, over, under) {
+    if out_of_range(arcs, supplies, k, count, rooms, ways) {
         return Answer::Outside;
     }
-    write_held(arcs, supplies, k, count, arc_buffer, rooms, over, under);
+    write_held(arcs, supplies, k, count, arc_buffer, rooms, ways);
     Answer::Runs
 }
 
-// Works a held arc of a well-formed plan out on a desk that is lent: rooms, over and under hold zeros.
+// Works a held arc of a well-formed plan out on a desk that is lent: rooms and words hold zeros.
 fn work_out_on(
     arcs: &[u32],
     supplies: &[i32],
@@ -129,20 +128,19 @@ fn work_out_on(
     count: u32,
     arc_buffer: &mut [u32],
     rooms: &mut [u32],
-    over: &mut [u32],
-    under: &mut [u32],
+    ways: &mut [u64],
 ) -> Answer
-    requires desk { ⌜ EmptyDesk (now arcs) (now supplies) (now rooms) (now over) (now under) ⌝ }
+    requires desk { ⌜ EmptyDesk (now arcs) (now supplies) (now rooms) (now ways) ⌝ }
     requires arc { ⌜ k < length (now arcs) / arc-entries ⌝ }
     requires whole { ⌜ length (now arcs) / arc-entries ≤ length (now «arc_buffer») ⌝ }
     ensures { λ r. ⌜ Told (plan-of (now (arcs .entry)) (now (supplies .entry))) k count (now («arc_buffer» .entry)) (now («arc_buffer» .exit)) r ⌝ }
 {
-    let outcome = ask(arcs, supplies, rooms, over, under);
+    let outcome = ask(arcs, supplies, rooms, ways);
     let asked = outcome.asked;
     let Asked::Balances = asked else {
         return Answer::to(asked);
     };
-    hold_and_write(arcs, supplies, k, count, arc_buffer, rooms, over, under)
+    hold_and_write(arcs, supplies, k, count, arc_buffer, rooms, ways)
 }
 
 // Works a held arc of a well-formed plan out.
@@ -153,18 +151,8 @@ fn work_out(arcs: &[u32], supplies: &[i32], k: usize, count: u32, arc_buffer: &m
     ensures { λ r. ⌜ Told (plan-of (now (arcs .entry)) (now (supplies .entry))) k count (now («arc_buffer» .entry)) (now («arc_buffer» .exit)) r ⌝ }
 {
     let mut rooms = [0u32; Rooms::CELLS];
-    let mut over = [0u32; Plan::MOST_NODES];
-    let mut under = [0u32; Plan::MOST_NODES];
-    work_out_on(
-        arcs,
-        supplies,
-        k,
-        count,
-        arc_buffer,
-        &mut rooms,
-        &mut over,
-        &mut under,
-    )
+    let mut ways = [0u64; Words::COUNT];
+    work_out_on(arcs, supplies, k, count, arc_buffer, &mut rooms, &mut ways)
 }
 
 // The first of the flows f with f arc = count: low ≤ f ≤ high on every arc and, at every node, what goes

@@ -16,7 +16,7 @@ use Rattle.stand.specs.declared.Asked.the-variants.{Balances, Lacks}
 use Rattle.flow.specs.Answer.{answer-to}
 use Rattle.narrow.specs.Answer.{judged, Ranges, Told, Says}
 
-pub both-ends : {p : Plan} {room : ℕ → ℕ → ℕ} {over under : ℕ → ℕ} (lows highs lows′ highs′ : List ℕ) → WellFormed p → Ready p room over under
+pub both-ends : {p : Plan} {room : ℕ → ℕ → ℕ} (lows highs lows′ highs′ : List ℕ) → WellFormed p → Ready p room
     → ((k : ℕ) → k < p .arcs → NarrowedEnd p k false (at lows′ k)) → ((i : ℕ) → p .arcs ≤ i → at lows′ i ≡ at lows i)
     → ((k : ℕ) → k < p .arcs → NarrowedEnd p k true (at highs′ k)) → ((i : ℕ) → p .arcs ≤ i → at highs′ i ≡ at highs i)
     → Ranges p lows highs lows′ highs′

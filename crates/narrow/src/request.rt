@@ -2,13 +2,14 @@
 use flow::Answer;
 use network::check;
 use network::too_short;
-use one_arc::ends::end_for;
+use one_arc::ends::step_for;
 use plan::Arc;
 use plan::Plan;
 use plan::Verdict;
 use rooms::Rooms;
 use stand::Asked;
 use stand::ask::ask;
+use ways::Words;
 ghost use mathlib.Core.Path.{_≡_};
 ghost use Prim.Native.Nat.{ℕ, _≤_, _<_, _/_};
 ghost use lib.ListN.{length};
@@ -20,51 +21,53 @@ ghost use Rattle.stand.specs.Desk.{EmptyDesk, ReadyDesk};
 ghost use Rattle.narrow.specs.Answer.{Told, NarrowAnswers};
 
 // Writes the smallest count of each arc, or with `upper` the largest. The flow that was found is carried
-// on from arc to arc.
+// on from arc to arc, one step after the other; an arc is left as soon as its end is known.
 fn write_ends(
     arcs: &[u32],
     supplies: &[i32],
     upper: bool,
     ends: &mut [u32],
     rooms: &mut [u32],
-    over: &mut [u32],
-    under: &mut [u32],
+    ways: &mut [u64],
 )
-    requires ready { ⌜ ReadyDesk (now arcs) (now supplies) (now rooms) (now over) (now under) ⌝ }
+    requires ready { ⌜ ReadyDesk (now arcs) (now supplies) (now rooms) (now ways) ⌝ }
     requires whole { ⌜ length (now arcs) / arc-entries ≤ length (now ends) ⌝ }
     ensures ends { λ r. ⌜ ((k : ℕ) → k < length (now (arcs .entry)) / arc-entries → NarrowedEnd (plan-of (now (arcs .entry)) (now (supplies .entry))) k upper (at (now (ends .exit)) k)) ⌝ }
     ensures past { λ r. ⌜ ((i : ℕ) → length (now (arcs .entry)) / arc-entries ≤ i → at (now (ends .exit)) i ≡ at (now (ends .entry)) i) ⌝ }
-    ensures ready { λ r. ⌜ ReadyDesk (now (arcs .entry)) (now (supplies .entry)) (now (rooms .exit)) (now (over .exit)) (now (under .exit)) ⌝ }
+    ensures ready { λ r. ⌜ ReadyDesk (now (arcs .entry)) (now (supplies .entry)) (now (rooms .exit)) (now (ways .exit)) ⌝ }
 {
     let count = arcs.len() / Arc::ENTRIES;
-    let mut k = 0;
-    while k < count {
-        ends[k] = end_for(arcs, supplies, k, upper, rooms, over, under);
-        k += 1;
+    'lanes: for k in 0..count {
+        'steps: loop {
+            let step = step_for(arcs, supplies, k, upper, rooms, ways);
+            if step.known {
+                ends[k] = step.end;
+                continue 'lanes;
+            }
+        }
     }
 }
 
-// Works a well-formed plan out on a desk that is lent: rooms, over and under hold zeros.
+// Works a well-formed plan out on a desk that is lent: rooms and words hold zeros.
 fn work_out_on(
     arcs: &[u32],
     supplies: &[i32],
     lows: &mut [u32],
     highs: &mut [u32],
     rooms: &mut [u32],
-    over: &mut [u32],
-    under: &mut [u32],
+    ways: &mut [u64],
 ) -> Asked
-    requires desk { ⌜ EmptyDesk (now arcs) (now supplies) (now rooms) (now over) (now under) ⌝ }
+    requires desk { ⌜ EmptyDesk (now arcs) (now supplies) (now rooms) (now ways) ⌝ }
     requires whole { ⌜ (length (now arcs) / arc-entries ≤ length (now lows)) × (length (now arcs) / arc-entries ≤ length (now highs)) ⌝ }
     ensures { λ r. ⌜ Told (plan-of (now (arcs .entry)) (now (supplies .entry))) (now (lows .entry)) (now (highs .entry)) (now (lows .exit)) (now (highs .exit)) r ⌝ }
 {
-    let outcome = ask(arcs, supplies, rooms, over, under);
+    let outcome = ask(arcs, supplies, rooms, ways);
     let asked = outcome.asked;
     let Asked::Balances = asked else {
         return asked;
     };
-    write_ends(arcs, supplies, false, lows, rooms, over, under);
-    write_ends(arcs, supplies, true, highs, rooms, over, under);
+    write_ends(arcs, supplies, false, lows, rooms, ways);
+    write_ends(arcs, supplies, true, highs, rooms, ways);
     Asked::Balances
 }
 
@@ -75,17 +78,8 @@ fn work_out(arcs: &[u32], supplies: &[i32], lows: &mut [u32], highs: &mut [u32])
     ensures { λ r. ⌜ Told (plan-of (now (arcs .entry)) (now (supplies .entry))) (now (lows .entry)) (now (highs .entry)) (now (lows .exit)) (now (highs .exit)) r ⌝ }
 {
     let mut rooms = [0u32; Rooms::CELLS];
-    let mut over = [0u32; Plan::MOST_NODES];
-    let mut under = [0u32; Plan::MOST_NODES];
-    work_out_on(
-        arcs,
-        supplies,
-        lows,
-        highs,
-        &mut rooms,
-        &mut over,
-        &mut under,
-    )
+    let mut ways = [0u64; Words::COUNT];
+    work_out_on(arcs, supplies, lows, highs, &mut rooms, &mut ways)
 }
 
 // For every arc k the least and the greatest f k over all flows f: low ≤ f ≤ high on every arc and, at

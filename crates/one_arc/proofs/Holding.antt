@@ -9,18 +9,20 @@ use native.Mathlib.Decide.{ℕ-discrete}
 use lib.Dec.{eqb}
 use lib.IntN.{ℤ, pos, _+ℤ_}
 use borrow.Author.Tests.{eq-eqb, ne-eqb}
-use Rattle.numbers.specs.Sums.{only, sum-in, put}
+use Rattle.numbers.specs.Sums.{only, put}
 use Rattle.numbers.specs.Parts.{plus, minus}
 use Rattle.numbers.proofs.Parts.{whole, add}
-use Rattle.numbers.proofs.Sums.{sum-change, sum-in-zero, sum-in-put, put-there, put-elsewhere}
-use Rattle.rooms.specs.Room.{crossing, Small}
-use Rattle.across.specs.Raise.{HeldOut}
+use Rattle.numbers.proofs.Sums.{sum-change, sum-in-put, put-there, put-elsewhere}
+use Rattle.rooms.specs.Room.{crossing}
+use Rattle.across.specs.Hold.{CanGive, HeldOut}
 use Rattle.plan.specs.Plan.{Plan, Set, WellFormed}
 use Rattle.plan.specs.Flow.{held}
 use Rattle.plan.specs.Shortage.{leaves, enters, shortfall}
-use Rattle.plan.proofs.Cut.{shortfall-parts}
-use Rattle.stand.specs.State.{widths, Represents, Ready}
-use Rattle.stand.proofs.Standing.{balanced-account}
+use Rattle.plan.proofs.Cut.{shortfall-parts, flow-leaves-no-shortfall}
+use Rattle.plan.proofs.Narrowing.{held-well-formed}
+use Rattle.plan.proofs.HeldCounts.{held-flow}
+use Rattle.stand.specs.State.{widths, Paired, Ready}
+use Rattle.one_arc.specs.Standing.{Possible}
 
 module _ (p : Plan) (k : ℕ) (l : k < p .arcs) (c : ℕ) where
   -- the arc runs from x to y
@@ -74,7 +76,7 @@ module _ (p : Plan) (k : ℕ) (l : k < p .arcs) (c : ℕ) where
   )
 
   -- an arc's width lies in the rooms of its pair
-  pub width-in-pair : {room : ℕ → ℕ → ℕ} {over under : ℕ → ℕ} → WellFormed p → Represents p room over under → (p .to k ≡ p .from k → ⊥)
+  pub width-in-pair : {room : ℕ → ℕ → ℕ} → WellFormed p → Paired p room → (p .to k ≡ p .from k → ⊥)
       → p .high k - p .low k ≤ room (p .from k) (p .to k) + room (p .to k) (p .from k)
   width-in-pair w r ne = omega (
     arith,
@@ -82,41 +84,49 @@ module _ (p : Plan) (k : ℕ) (l : k < p .arcs) (c : ℕ) where
     widths-less,
   )
 
-  module _ (w : WellFormed p) {room room′ : ℕ → ℕ → ℕ} {over under over′ under′ : ℕ → ℕ} (y : Ready p room over under)
-      (least : p .low k ≤ c) (most : c ≤ p .high k) (ne : p .to k ≡ p .from k → ⊥)
-      (h : HeldOut (p .nodes) room over under room′ over′ under′ (p .from k) (p .to k) (p .high k - c) (c - p .low k)) where
-    pub held-represents : Represents (held p k c) room′ over′ under′
-    held-represents = record {
+  module _ (w : WellFormed p) {room : ℕ → ℕ → ℕ} (y : Ready p room) (possible : Possible p k c) (ne : p .to k ≡ p .from k → ⊥) where
+    balance : (S : Set) → plus (shortfall p S) + crossing (p .nodes) room S ≡ minus (shortfall p S)
+    balance S = omega (whole, y .account S, add (shortfall p S) (pos (crossing (p .nodes) room S)))
+
+    none-short : (S : Set) → plus (shortfall (held p k c) S) ≤ minus (shortfall (held p k c) S)
+    none-short S = omega (
+      whole,
+      flow-leaves-no-shortfall (held p k c) (held-well-formed p k l c (possible .least) (possible .most) w)
+          (possible .occurs .counts) (held-flow (possible .occurs)) S,
+    )
+
+    -- held, the plan has a flow: no set is short, so each set that the arc crosses has room for its share
+    pub can-give : CanGive (p .nodes) room (p .from k) (p .to k) (p .high k - c) (c - p .low k)
+    can-give = record {
+      pair = omega (arith, width-in-pair w (y .paired) ne, possible .least, possible .most);
+      out-can = λ S s. omega (arith, balance S, none-short S, rw (s .inside, s .outside) at (shortfall-held S));
+      home-can = λ S s. omega (arith, balance S, none-short S, rw (s .inside, s .outside) at (shortfall-held S));
+    }
+
+    pub held-ready : {room′ : ℕ → ℕ → ℕ} → HeldOut (p .nodes) room room′ (p .from k) (p .to k) (p .high k - c) (c - p .low k)
+        → Ready (held p k c) room′
+    held-ready {room′} h = record {
       account = λ S. by S (S (p .from k)) (S (p .to k)) (h .account S) (shortfall-held S);
-      pairs = λ x z lx lz other. by-cases (ℕ-discrete x (p .from k))
-          (λ ex. by-cases (ℕ-discrete z (p .to k))
-          (λ ez. rw (ex, ez) own)
-          (λ nz. plain x z lx lz other (λ e. nz) (λ e f. ne (sym e ∙ ex))))
-          (λ nx. by-cases (ℕ-discrete x (p .to k))
-          (λ ex. by-cases (ℕ-discrete z (p .from k))
-          (λ ez. rw (ex, ez) (omega (arith, own)))
-          (λ nz. plain x z lx lz other (λ e. absurd (nx e)) (λ e. nz)))
-          (λ ny. plain x z lx lz other (λ e. absurd (nx e)) (λ e. absurd (ny e))));
+      paired = record {
+        pairs = λ x z lx lz other. by-cases (ℕ-discrete x (p .from k))
+            (λ ex. by-cases (ℕ-discrete z (p .to k))
+            (λ ez. rw (ex, ez) own)
+            (λ nz. plain x z lx lz other (λ e. nz) (λ e f. ne (sym e ∙ ex))))
+            (λ nx. by-cases (ℕ-discrete x (p .to k))
+            (λ ex. by-cases (ℕ-discrete z (p .from k))
+            (λ ez. rw (ex, ez) (omega (arith, own)))
+            (λ nz. plain x z lx lz other (λ e. absurd (nx e)) (λ e. nz)))
+            (λ ny. plain x z lx lz other (λ e. absurd (nx e)) (λ e. absurd (ny e))));
+      };
     }
       where
-        none-over : (S : Set) → sum-in (p .nodes) S over ≡ 0
-        none-over S = sum-in-zero (p .nodes) S over (λ v lv i. y .balanced .none-over v lv)
-
-        none-under : (S : Set) → sum-in (p .nodes) S under ≡ 0
-        none-under S = sum-in-zero (p .nodes) S under (λ v lv i. y .balanced .none-under v lv)
-
-        balance : (S : Set) → plus (shortfall p S) + crossing (p .nodes) room S ≡ minus (shortfall p S)
-        balance S = omega (
-          whole,
-          balanced-account (y .represents) (y .balanced) S,
-          add (shortfall p S) (pos (crossing (p .nodes) room S)),
-        )
-
         own : room′ (p .from k) (p .to k) + room′ (p .to k) (p .from k) ≡ widths (held p k c) (p .from k) (p .to k) + widths (held p k c) (p .to k) (p .from k)
         own = omega (
           arith,
           h .pair,
-          y .represents .pairs (p .from k) (p .to k) (w .from-node k l) (w .to-node k l) (λ e. ne (sym e)),
+          possible .least,
+          possible .most,
+          y .paired .pairs (p .from k) (p .to k) (w .from-node k l) (w .to-node k l) (λ e. ne (sym e)),
           widths-less,
           widths-same (p .to k) (p .from k) (λ e. absurd (ne e)),
         )
@@ -125,61 +135,43 @@ module _ (p : Plan) (k : ℕ) (l : k < p .arcs) (c : ℕ) where
             → room′ x z + room′ z x ≡ widths (held p k c) x z + widths (held p k c) z x
         plain x z lx lz other a b = omega (
           arith,
-          h .pairs x z lx lz a b,
-          y .represents .pairs x z lx lz other,
+          h .pairs x z (omega (arith, w .nodes-fit)) (omega (arith, w .nodes-fit)) a b,
+          y .paired .pairs x z lx lz other,
           widths-same x z a,
           widths-same z x (λ e f. b f e),
         )
 
         by : (S : Set) (s t : Bool)
-            → crossing (p .nodes) room S + sum-in (p .nodes) S under + sum-in (p .nodes) S over′
-            ≡ crossing (p .nodes) room′ S + sum-in (p .nodes) S under′ + sum-in (p .nodes) S over
-            + (only s (only (not t) (p .high k - c)) + only t (only (not s) (c - p .low k)))
+            → crossing (p .nodes) room S
+            ≡ crossing (p .nodes) room′ S + (only s (only (not t) (p .high k - c)) + only t (only (not s) (c - p .low k)))
             → plus (shortfall (held p k c) S) + minus (shortfall p S) + (only (s && not t) c + only (not s && t) (p .low k))
             ≡ plus (shortfall p S) + minus (shortfall (held p k c) S) + (only (s && not t) (p .high k) + only (not s && t) c)
-            → shortfall (held p k c) S +ℤ pos (crossing (p .nodes) room′ S + sum-in (p .nodes) S under′) ≡ pos (sum-in (p .nodes) S over′)
-        by S true true a e = omega (whole, balance S, add (shortfall (held p k c) S) (pos (crossing (p .nodes) room′ S + sum-in (p .nodes) S under′)), none-over S, none-under S)
-        by S true false a e = omega (whole, balance S, add (shortfall (held p k c) S) (pos (crossing (p .nodes) room′ S + sum-in (p .nodes) S under′)), none-over S, none-under S)
-        by S false true a e = omega (whole, balance S, add (shortfall (held p k c) S) (pos (crossing (p .nodes) room′ S + sum-in (p .nodes) S under′)), none-over S, none-under S)
-        by S false false a e = omega (whole, balance S, add (shortfall (held p k c) S) (pos (crossing (p .nodes) room′ S + sum-in (p .nodes) S under′)), none-over S, none-under S)
-
-    pub held-small : Small (held p k c .nodes) room′ under′
-    held-small = record {
-      pairs-small = λ x z lx lz other. omega (
-        arith,
-        held-represents .pairs x z lx lz other,
-        y .represents .pairs x z lx lz other,
-        y .small .pairs-small x z lx lz other,
-        widths-held x z,
-        widths-held z x,
-      );
-      under-small = omega (
-        arith,
-        h .under-less,
-        sum-in-zero (p .nodes) (λ v. true) under (λ v lv i. y .balanced .none-under v lv),
-        w .high-fits k l,
-      );
-    }
+            → shortfall (held p k c) S +ℤ pos (crossing (p .nodes) room′ S) ≡ pos 0
+        by S true true a e = omega (whole, balance S, add (shortfall (held p k c) S) (pos (crossing (p .nodes) room′ S)))
+        by S true false a e = omega (whole, balance S, possible .most, add (shortfall (held p k c) S) (pos (crossing (p .nodes) room′ S)))
+        by S false true a e = omega (whole, balance S, possible .least, add (shortfall (held p k c) S) (pos (crossing (p .nodes) room′ S)))
+        by S false false a e = omega (whole, balance S, add (shortfall (held p k c) S) (pos (crossing (p .nodes) room′ S)))
 
   -- a self-loop crosses no set and has no room between two nodes: held or not, the state is the same
-  pub loop-held-represents : {room : ℕ → ℕ → ℕ} {over under : ℕ → ℕ} → p .from k ≡ p .to k → Represents p room over under
-      → Represents (held p k c) room over under
-  loop-held-represents {room} {over} {under} loop r = record {
+  pub loop-held-ready : {room : ℕ → ℕ → ℕ} → p .from k ≡ p .to k → Ready p room → Ready (held p k c) room
+  loop-held-ready {room} loop y = record {
     account = λ S. omega (
       whole,
-      r .account S,
+      y .account S,
       shortfall-held S,
       inside S,
       outside S,
-      add (shortfall p S) (pos (crossing (p .nodes) room S + sum-in (p .nodes) S under)),
-      add (shortfall (held p k c) S) (pos (crossing (p .nodes) room S + sum-in (p .nodes) S under)),
+      add (shortfall p S) (pos (crossing (p .nodes) room S)),
+      add (shortfall (held p k c) S) (pos (crossing (p .nodes) room S)),
     );
-    pairs = λ x z lx lz other. omega (
-      arith,
-      r .pairs x z lx lz other,
-      widths-same x z (λ e f. other (e ∙ loop ∙ sym f)),
-      widths-same z x (λ e f. other (f ∙ sym loop ∙ sym e)),
-    );
+    paired = record {
+      pairs = λ x z lx lz other. omega (
+        arith,
+        y .paired .pairs x z lx lz other,
+        widths-same x z (λ e f. other (e ∙ loop ∙ sym f)),
+        widths-same z x (λ e f. other (f ∙ sym loop ∙ sym e)),
+      );
+    };
   }
     where
       never : (t : Bool) (x : ℕ) → only (t && not t) x ≡ 0

@@ -1,36 +1,49 @@
 -- One arc of a plan that stands ready, said in the numbers that the code has: n nodes, the arc from a to b, its range low..high.
 use Prim.Native.Nat.{ℕ, _+_, _-_, _≤_, _<_}
 use mathlib.Core.Path.{_≡_, refl, sym, _∙_}
-use mathlib.Core.Bool.{Bool, true, false, cond}
+use mathlib.Core.Bool.{Bool, true, false, cond, true≢false}
 use mathlib.Core.List.{List}
+use mathlib.Core.Logic.{by-cases}
 use native.Mathlib.Omega.{arith}
-use Rattle.rooms.specs.Room.{seen, Small, Kept}
-use Rattle.across.specs.Raise.{Balanced, NoneShort, Free, Measured, HeldOut}
-use Rattle.engine.proofs.Sweeping.{kept-small}
+use native.Mathlib.Decide.{ℕ-discrete}
+use Rattle.rooms.specs.Room.{seen, Still}
+use Rattle.across.specs.Free.{Tight, Free}
+use Rattle.across.specs.Hold.{CanGive, HeldOut}
+use Rattle.across.proofs.Rounds.{whole-free, stuck-free}
 use Rattle.plan.specs.Plan.{Plan, WellFormed}
 use Rattle.plan.specs.Flow.{Flow, held}
 use Rattle.plan.specs.Reason.{NarrowedEnd, EndReason}
-use Rattle.plan.proofs.Narrowing.{held-well-formed, loop-smallest, loop-largest}
-use Rattle.plan.proofs.HeldCounts.{held-flow}
-use Rattle.stand.specs.State.{Represents, Ready}
-use Rattle.one_arc.specs.Standing.{Standing, Possible}
-use Rattle.stand.proofs.Standing.{kept-represents, flow-none-short, ready-flow, still-ready, free-end, free-reason, seen-still}
-use Rattle.one_arc.proofs.Holding.{width-in-pair, held-represents, held-small, loop-held-represents}
+use Rattle.plan.proofs.Narrowing.{loop-smallest, loop-largest}
+use Rattle.stand.specs.State.{Ready}
+use Rattle.stand.proofs.Standing.{ready-flow, still-ready, free-end, free-reason, seen-still}
+use Rattle.one_arc.specs.Standing.{Standing, Possible, lacking}
+use Rattle.one_arc.proofs.Holding.{width-in-pair, can-give, held-ready, loop-held-ready}
 
--- a state in balance after another that kept the accounts stands ready
-pub again-ready : {p : Plan} {n : ℕ} {room room′ : ℕ → ℕ → ℕ} {over under over′ under′ : ℕ → ℕ} → p .nodes ≡ n → Represents p room over under
-    → Small (p .nodes) room under → Kept n room over under room′ over′ under′ → Balanced n over′ under′ → Ready p room′ over′ under′
-again-ready {p} {n} {room} {room′} {over} {under} {over′} {under′} same r s k b =
-    let kept : Kept (p .nodes) room over under room′ over′ under′ = rw same k in
-    record { represents = kept-represents r kept; balanced = rw same b; small = kept-small kept s }
+-- ---- what of a width is free, by the direct room
 
-module _ {p : Plan} {k n a b low high : ℕ} {room : ℕ → ℕ → ℕ} {over under : ℕ → ℕ} (st : Standing p k n a b low high room over under) where
-  pub standing-small : Small n room under
-  standing-small = rw (st .nodes-are) at (st .ready .small)
+module _ {n : ℕ} {room : ℕ → ℕ → ℕ} {a b width : ℕ} {S : ℕ → Bool} (la : a < n) (lb : b < n) where
+  -- the code's number: all of a self-loop's width, else at most the direct room
+  module _ {free : ℕ} (loop : b ≡ a → free ≡ width)
+      (fits : (b ≡ a → ⊥) → (free ≤ width) × (free ≤ room a b) × (free < width → free ≡ room a b)) where
+    pub there-whole : width ≤ free → Free n room a b width free S
+    there-whole all = by-cases (ℕ-discrete b a)
+        (λ e. rw (loop e) (record {
+          fits = omega arith;
+          enough = λ R s. absurd (true≢false (sym (s .inside) ∙ rw e at (s .outside)));
+          tight = λ less. absurd (omega arith);
+        }))
+        (λ ne.
+        let same : free ≡ width = omega (arith, fits ne .0) in
+        rw same (whole-free la lb (omega (arith, fits ne .1))))
 
-  pub standing-balanced : Balanced n over under
-  standing-balanced = rw (st .nodes-are) at (st .ready .balanced)
+    pub there-stuck : free < width → Tight n room a b (room a b) S → Free n room a b width free S
+    there-stuck less t =
+        let is : free ≡ room a b = fits (λ e. omega (arith, loop e)) .2 less in
+        rw is (stuck-free la lb (omega arith) t)
 
+-- ---- an arc
+
+module _ {p : Plan} {k n a b low high : ℕ} {room : ℕ → ℕ → ℕ} (st : Standing p k n a b low high room) where
   pub standing-from : a < n
   standing-from = omega (arith, st .well-formed .from-node k (st .arc), st .from-is, st .nodes-are)
 
@@ -46,7 +59,7 @@ module _ {p : Plan} {k n a b low high : ℕ} {room : ℕ → ℕ → ℕ} {over 
   pub standing-wide : (b ≡ a → ⊥) → high - low ≤ room a b + room b a
   standing-wide ne =
       rw (st .from-is, st .to-is, st .low-is, st .high-is) at
-      (width-in-pair p k (st .arc) 0 (st .well-formed) (st .ready .represents) (other ne))
+      (width-in-pair p k (st .arc) 0 (st .well-formed) (st .ready .paired) (other ne))
 
   -- a self-loop's ends stand
   pub standing-loop : (upper : Bool) → b ≡ a → NarrowedEnd p k upper (cond upper high low)
@@ -63,8 +76,8 @@ module _ {p : Plan} {k n a b low high : ℕ} {room : ℕ → ℕ → ℕ} {over 
       by true = rw (st .high-is) at (loop-largest p (st .well-formed) (flows .0) (flows .1) k (st .arc) loop)
 
 -- an arc in its plan's own words
-pub own-standing : {p : Plan} {k : ℕ} {room : ℕ → ℕ → ℕ} {over under : ℕ → ℕ} → WellFormed p → k < p .arcs → Ready p room over under
-    → Standing p k (p .nodes) (p .from k) (p .to k) (p .low k) (p .high k) room over under
+pub own-standing : {p : Plan} {k : ℕ} {room : ℕ → ℕ → ℕ} → WellFormed p → k < p .arcs → Ready p room
+    → Standing p k (p .nodes) (p .from k) (p .to k) (p .low k) (p .high k) room
 own-standing w l y = record {
   well-formed = w;
   arc = l;
@@ -77,8 +90,8 @@ own-standing w l y = record {
 }
 
 -- the same arc of the same plan, in another state that is ready
-pub standing-on : {p : Plan} {k n a b low high : ℕ} {room room′ : ℕ → ℕ → ℕ} {over under over′ under′ : ℕ → ℕ}
-    → Standing p k n a b low high room over under → Ready p room′ over′ under′ → Standing p k n a b low high room′ over′ under′
+pub standing-on : {p : Plan} {k n a b low high : ℕ} {room room′ : ℕ → ℕ → ℕ} → Standing p k n a b low high room → Ready p room′
+    → Standing p k n a b low high room′
 standing-on st y = record {
   well-formed = st .well-formed;
   arc = st .arc;
@@ -92,17 +105,19 @@ standing-on st y = record {
 
 -- ---- whichever way the rooms are looked at
 
-module _ {p : Plan} {k n a b low high : ℕ} (rooms : List ℕ) {over under : ℕ → ℕ} (st : Standing p k n a b low high (seen rooms false) over under) where
-  pub facing-small : (upper : Bool) → Small n (seen rooms upper) under
-  facing-small false = standing-small st
-  facing-small true = record {
-    pairs-small = λ x y lx ly ne. omega (arith, standing-small st .pairs-small x y lx ly ne);
-    under-small = standing-small st .under-small;
-  }
-
+module _ {p : Plan} {k n a b low high : ℕ} (rooms : List ℕ) (st : Standing p k n a b low high (seen rooms false)) where
   pub facing-wide : (upper : Bool) → (b ≡ a → ⊥) → high - low ≤ seen rooms upper a b + seen rooms upper b a
   facing-wide false ne = standing-wide st ne
   facing-wide true ne = omega (arith, standing-wide st ne)
+
+  -- with the same room out of every set, the plan stands ready still
+  pub facing-ready : (rooms′ : List ℕ) (upper : Bool) → Still n (seen rooms upper) (seen rooms′ upper) → Ready p (seen rooms′ false)
+  facing-ready rooms′ upper still = still-ready (st .well-formed) (st .ready) (rw (st .nodes-are) (seen-still n rooms rooms′ upper still))
+
+  -- where its room is wider, it lacks less
+  pub facing-less : (rooms′ : List ℕ) (upper : Bool) → seen rooms upper a b < high - low → seen rooms upper a b < seen rooms′ upper a b
+      → lacking p k upper rooms′ < lacking p k upper rooms
+  facing-less rooms′ upper short wider = rw (st .from-is, st .to-is, st .low-is, st .high-is) (omega arith)
 
   module _ (upper : Bool) {free : ℕ} {S : ℕ → Bool} (m : Free n (seen rooms upper) a b (high - low) free S) where
     own : Free (p .nodes) (seen rooms upper) (p .from k) (p .to k) (p .high k - p .low k) free S
@@ -116,47 +131,24 @@ module _ {p : Plan} {k n a b low high : ℕ} (rooms : List ℕ) {over under : �
     facing-reason less = rw (st .low-is, st .high-is) at
         (free-reason (st .well-formed) rooms (st .ready) k (st .arc) upper own (omega (arith, less, st .low-is, st .high-is)))
 
--- measured and in balance again, the plan stands ready
-pub measured-ready : {p : Plan} {k n a b low high width free : ℕ} {upper : Bool} {rooms rooms′ : List ℕ} {over under over′ under′ : ℕ → ℕ}
-    → Standing p k n a b low high (seen rooms false) over under → Measured n upper rooms rooms′ a b width free → Balanced n over′ under′
-    → Ready p (seen rooms′ false) over′ under′
-measured-ready {n = n} {upper = upper} {rooms = rooms} {rooms′ = rooms′} st m b =
-    still-ready (st .ready .represents) (st .ready .balanced) (st .ready .small)
-    (rw (st .nodes-are) (seen-still n rooms rooms′ upper (m .still))) (rw (st .nodes-are) b)
-
 -- ---- held at a count
 
-module _ {p : Plan} {k n a b low high count : ℕ} {room : ℕ → ℕ → ℕ} {over under : ℕ → ℕ} (st : Standing p k n a b low high room over under)
-    (c : Possible p k count) where
+module _ {p : Plan} {k n a b low high count : ℕ} {room : ℕ → ℕ → ℕ} (st : Standing p k n a b low high room) (c : Possible p k count) where
   pub standing-least : low ≤ count
   standing-least = omega (arith, c .least, st .low-is)
 
   pub standing-most : count ≤ high
   standing-most = omega (arith, c .most, st .high-is)
 
-  pub standing-shares : (b ≡ a → ⊥) → high - count + (count - low) ≤ room a b + room b a
-  standing-shares ne = omega (arith, standing-wide st ne, standing-least, standing-most)
+  pub standing-can-give : (b ≡ a → ⊥) → CanGive n room a b (high - count) (count - low)
+  standing-can-give ne = rw (st .nodes-are, st .from-is, st .to-is, st .low-is, st .high-is) at
+      (can-give p k (st .arc) count (st .well-formed) (st .ready) c (other st ne))
 
-  module _ {room′ : ℕ → ℕ → ℕ} {over′ under′ : ℕ → ℕ} (ne : b ≡ a → ⊥)
-      (h : HeldOut n room over under room′ over′ under′ a b (high - count) (count - low)) where
-    own-held : HeldOut (p .nodes) room over under room′ over′ under′ (p .from k) (p .to k) (p .high k - count) (count - p .low k)
-    own-held = rw (st .nodes-are, st .from-is, st .to-is, st .low-is, st .high-is) h
+  pub standing-held : {room′ : ℕ → ℕ → ℕ} → (b ≡ a → ⊥) → HeldOut n room room′ a b (high - count) (count - low) → Ready (held p k count) room′
+  standing-held {room′} ne h =
+      let own : HeldOut (p .nodes) room room′ (p .from k) (p .to k) (p .high k - count) (count - p .low k)
+      = rw (st .nodes-are, st .from-is, st .to-is, st .low-is, st .high-is) h in
+      held-ready p k (st .arc) count (st .well-formed) (st .ready) c (other st ne) own
 
-    pub standing-held : Represents (held p k count) room′ over′ under′
-    standing-held =
-        held-represents p k (st .arc) count (st .well-formed) (st .ready) (c .least) (c .most) (other st ne) own-held
-
-    pub standing-held-small : Small (p .nodes) room′ under′
-    standing-held-small =
-        held-small p k (st .arc) count (st .well-formed) (st .ready) (c .least) (c .most) (other st ne) own-held
-
-    pub standing-held-covered : NoneShort n room′ over′ under′
-    standing-held-covered = rw (st .nodes-are) at
-        (flow-none-short standing-held (held-well-formed p k (st .arc) count (c .least) (c .most) (st .well-formed)) (c .occurs .counts) (held-flow (c .occurs)))
-
-  pub standing-held-loop : b ≡ a → Ready (held p k count) room over under
-  standing-held-loop e = record {
-    represents = loop-held-represents p k (st .arc) count (st .from-is ∙ sym e ∙ sym (st .to-is)) (st .ready .represents);
-    balanced = st .ready .balanced;
-    small = st .ready .small;
-  }
+  pub standing-held-loop : b ≡ a → Ready (held p k count) room
+  standing-held-loop e = loop-held-ready p k (st .arc) count (st .from-is ∙ sym e ∙ sym (st .to-is)) (st .ready)

@@ -1,3 +1,3 @@
--- The reach of a set of nodes through the rooms, and what a search for it leaves.
+-- The reach of a set of nodes through the rooms, and what a search over words leaves.
 pub mod Reach
-pub mod Searched
+pub mod Search

@@ -1,6 +1,6 @@
 -- The reach of the nodes that have something over: the least set that holds them and that no step leaves. One direct step,
 -- from u to v, is shut; where u is no node, none is.
-use Prim.Native.Nat.{ℕ, _≤_, _<_}
+use Prim.Native.Nat.{ℕ, _<_}
 use mathlib.Core.Path.{_≡_}
 use mathlib.Core.Bool.{Bool, true}
 
@@ -22,14 +22,3 @@ pub record Reach (n : ℕ) (room : ℕ → ℕ → ℕ) (over : ℕ → ℕ) (u 
   pub holds : Holds n over S
   pub closed : Closed n room u v S
   pub least : (R : ℕ → Bool) → Holds n over R → Closed n room u v R → (x : ℕ) → x < n → S x ≡ true → R x ≡ true
-
--- how the reach was found: first the nodes with something over, then each new node with the node that a step led from
-pub record Log (n : ℕ) (room : ℕ → ℕ → ℕ) (over : ℕ → ℕ) (u v : ℕ) (S : ℕ → Bool) (order finder : ℕ → ℕ) (starts count : ℕ) : Type 0 where
-  pub starts-first : starts ≤ count
-  pub count-fits : count ≤ n
-  pub node : (j : ℕ) → j < count → order j < n
-  pub inside : (j : ℕ) → j < count → S (order j) ≡ true
-  pub once : (i j : ℕ) → i < j → j < count → order i ≡ order j → ⊥
-  pub all : (x : ℕ) → x < n → S x ≡ true → (j : ℕ) × (j < count) × (order j ≡ x)
-  pub start : (j : ℕ) → j < starts → 0 < over (order j)
-  pub found : (j : ℕ) → starts ≤ j → j < count → (i : ℕ) × (i < j) × (finder j ≡ order i) × Step room u v (order i) (order j)

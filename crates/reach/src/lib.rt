@@ -1,147 +1,127 @@
-// The reach search: breadth first from the nodes that have something over, through the rooms, with one
-// direct step shut. The queue is the log: first the starts, then each new node with its finder. The reached
-// nodes are one word. It uses `rooms`, and `words` for that set. Internal: its functions have `requires`.
-use rooms::place;
-use words::below;
+// The search over words: level by level from a set of starts, with one direct step shut, and left as soon as a level meets
+// the goal; and the path back through the levels. It uses `ways` for where room leads, and `words` for sets of nodes.
+// Internal: its functions have `requires`.
+use rooms::Rooms;
+use ways::word_at;
+use words::both;
 use words::but;
 use words::either;
 use words::one;
 use words::take_first;
 ghost use mathlib.Core.Path.{_≡_};
-ghost use mathlib.Core.Bool.{true, false};
-ghost use Prim.Native.Nat.{ℕ, _*_, _≤_, _<_};
+ghost use mathlib.Core.Bool.{true, not};
+ghost use Prim.Native.Nat.{ℕ, _+_, _≤_, _<_};
 ghost use lib.ListN.{length};
 ghost use Rattle.words.specs.Word.{holds};
-ghost use Rattle.rooms.specs.Room.{side, at, seen};
-ghost use Rattle.reach.specs.Reach.{Step, Holds, Log};
-ghost use Rattle.reach.specs.Searched.{Desk, Within, Searched};
+ghost use Rattle.rooms.specs.Room.{side, at};
+ghost use Rattle.ways.specs.Ways.{leads};
+ghost use Rattle.reach.specs.Search.{Open, Widened, Layers, Sought, Path};
 
-// How many nodes a search started from, how many it found in all, and the set of these.
+// The last level of a search, what of the goal it meets, and, where that is nothing, all that was reached.
 pub struct Found {
-    pub starts: usize,
-    pub count: usize,
+    pub depth: usize,
+    pub met: u64,
     pub reached: u64,
 }
 
-// There is room to go from x to y, and the step is not the one that is shut.
-fn leads(rooms: &[u32], back: bool, u: usize, v: usize, x: usize, y: usize) -> bool
-    requires whole { ⌜ side * side ≤ length (now rooms) ⌝ }
-    requires nodes { ⌜ (x < side) × (y < side) ⌝ }
-    ensures open { λ r. ⌜ (r ≡ true → Step (seen (now (rooms .entry)) back) u v x y) ⌝ }
-    ensures shut { λ r. ⌜ (r ≡ false → Step (seen (now (rooms .entry)) back) u v x y → ⊥) ⌝ }
-{
-    let cell = place(back, x, y);
-    if rooms[cell] == 0 {
-        return false;
-    }
-    if x != u {
-        return true;
-    }
-    y != v
+impl Found {
+    // Levels are apart, so that there are at most as many as nodes, and the starts.
+    pub const LEVELS: usize = Rooms::SIDE + 1;
+
+    // A path through the levels, and the step from its end.
+    pub const PATH: usize = Found::LEVELS + 1;
 }
 
-// The nodes that have something over: their set, and written down in order. They are a log that has found
-// nothing yet.
-fn begin(over: &[u32], n: usize, order: &mut [u8]) -> Found
-    requires few { ⌜ n ≤ side ⌝ }
-    requires over { ⌜ n ≤ length (now over) ⌝ }
-    requires order { ⌜ n ≤ length (now order) ⌝ }
-    ensures log { λ r. ⌜ ((room : ℕ → ℕ → ℕ) (u v : ℕ) (finder : ℕ → ℕ) → Log n room (at (now (over .entry))) u v (holds (r .reached)) (at (now (order .exit))) finder (r .starts) (r .count)) ⌝ }
-    ensures holds { λ r. ⌜ Holds n (at (now (over .entry))) (holds (r .reached)) ⌝ }
-    ensures within { λ r. ⌜ Within n (holds (r .reached)) ⌝ }
+// Where steps lead from x, without the direct step from u to v.
+fn steps(ways: &[u64], back: bool, u: usize, v: usize, x: usize) -> u64
+    requires { ⌜ (side + side ≤ length (now ways)) × (x < side) × (u < side → v < side) ⌝ }
+    ensures open { λ r. ⌜ ((y : ℕ) → holds r y ≡ true → Open (leads (now (ways .entry)) back) u v x y) ⌝ }
+    ensures all { λ r. ⌜ ((y : ℕ) → Open (leads (now (ways .entry)) back) u v x y → holds r y ≡ true) ⌝ }
 {
-    let mut reached: u64 = 0;
-    let mut count = 0;
-    let mut x = 0;
-    while x < n {
-        if 0 < over[x] {
-            reached = either(one(x), reached);
-            order[count] = x as u8;
-            count += 1;
-        }
-        x += 1;
+    let here = ways[word_at(back, x)];
+    if x == u {
+        return but(here, one(v));
     }
-    Found {
-        starts: count,
-        count,
-        reached,
-    }
+    here
 }
 
-// Looks at every step from the node at `head` in the log to a node that is not reached yet: the node that it
-// leads to is reached now, and added to the log. What the log had before stays.
-fn look_at(
-    rooms: &[u32],
-    back: bool,
-    n: usize,
-    u: usize,
-    v: usize,
-    head: usize,
-    order: &mut [u8],
-    finder: &mut [u8],
-    found: Found,
-) -> Found
-    requires few { ⌜ n ≤ side ⌝ }
-    requires whole { ⌜ side * side ≤ length (now rooms) ⌝ }
-    requires desk { ⌜ Desk n (now order) (now finder) ⌝ }
-    requires turn { ⌜ head < found .count ⌝ }
-    requires log { ⌜ ((over : ℕ → ℕ) × Log n (seen (now rooms) back) over u v (holds (found .reached)) (at (now order)) (at (now finder)) (found .starts) (found .count)) ⌝ }
-    ensures log { λ r. ⌜ ((over : ℕ → ℕ) → Log n (seen (now (rooms .entry)) back) over u v (holds (found .reached)) (at (now (order .entry))) (at (now (finder .entry))) (found .starts) (found .count) → Log n (seen (now (rooms .entry)) back) over u v (holds (r .reached)) (at (now (order .exit))) (at (now (finder .exit))) (r .starts) (r .count)) ⌝ }
-    ensures before { λ r. ⌜ ((j : ℕ) → j < found .count → at (now (order .exit)) j ≡ at (now (order .entry)) j) ⌝ }
-    ensures grown { λ r. ⌜ ((y : ℕ) → holds (found .reached) y ≡ true → holds (r .reached) y ≡ true) ⌝ }
-    ensures within { λ r. ⌜ (Within n (holds (found .reached)) → Within n (holds (r .reached))) ⌝ }
-    ensures row { λ r. ⌜ ((y : ℕ) → y < n → Step (seen (now (rooms .entry)) back) u v (at (now (order .entry)) head) y → holds (r .reached) y ≡ true) ⌝ }
-    ensures starts { λ r. ⌜ r .starts ≡ found .starts ⌝ }
+// Where steps lead from the nodes of a set.
+fn widen(ways: &[u64], back: bool, u: usize, v: usize, front: u64) -> u64
+    requires { ⌜ (side + side ≤ length (now ways)) × (u < side → v < side) ⌝ }
+    ensures { λ r. ⌜ Widened (leads (now (ways .entry)) back) u v front r ⌝ }
 {
-    let x = order[head];
-    let mut count = found.count;
-    let mut reached = found.reached;
-    let mut left = but(below(n), reached);
-    while 0 < left {
-        let split = take_first(left);
-        let y = split.first;
-        left = split.rest;
-        if leads(rooms, back, u, v, x as usize, y) {
-            reached = either(one(y), reached);
-            order[count] = y as u8;
-            finder[count] = x;
-            count += 1;
-        }
+    let mut rest = front;
+    let mut next: u64 = 0;
+    while 0 < rest {
+        let split = take_first(rest);
+        next = either(next, steps(ways, back, u, v, split.first));
+        rest = split.rest;
     }
-    Found {
-        starts: found.starts,
-        count,
-        reached,
-    }
+    next
 }
 
-// The reach of the nodes that have something over, and how each of its nodes was found. The direct step
-// from u to v is shut; with u at n or beyond, none is.
+// Searches from the starts for the goal, without the direct step from u to v; with u at 64 or beyond, none is shut.
 pub fn search(
-    rooms: &[u32],
+    ways: &[u64],
     back: bool,
-    over: &[u32],
-    n: usize,
     u: usize,
     v: usize,
-    order: &mut [u8],
-    finder: &mut [u8],
+    start: u64,
+    goal: u64,
+    levels: &mut [u64],
 ) -> Found
-    requires few { ⌜ n ≤ side ⌝ }
-    requires whole { ⌜ side * side ≤ length (now rooms) ⌝ }
-    requires over { ⌜ n ≤ length (now over) ⌝ }
-    requires desk { ⌜ Desk n (now order) (now finder) ⌝ }
-    ensures { λ r. ⌜ Searched n (seen (now (rooms .entry)) back) (at (now (over .entry))) u v (r .reached) (now (order .exit)) (now (finder .exit)) (r .starts) (r .count) ⌝ }
+    requires { ⌜ (side + side ≤ length (now ways)) × (u < side → v < side) × (side < length (now levels)) ⌝ }
+    ensures { λ r. ⌜ Sought (leads (now (ways .entry)) back) u v start goal (at (now (levels .exit))) (r .depth) (r .met) (r .reached) ⌝ }
 {
-    let mut found = begin(over, n, order);
-    let mut head = 0;
-    while head < found.count {
-        // No row can add a node to a log that has them all.
-        if found.count == n {
-            break;
+    let mut depth = 0;
+    let mut front = start;
+    let mut reached = start;
+    levels[0] = start;
+    let met = loop {
+        let met = both(front, goal);
+        if 0 < met {
+            break met;
         }
-        found = look_at(rooms, back, n, u, v, head, order, finder, found);
-        head += 1;
+        let next = but(widen(ways, back, u, v, front), reached);
+        if next == 0 {
+            break 0;
+        }
+        depth += 1;
+        levels[depth] = next;
+        reached = either(reached, next);
+        front = next;
+    };
+    Found {
+        depth,
+        met,
+        reached,
     }
-    found
+}
+
+// Writes down a path through the levels to a node of the last one; it is walked from its end back.
+pub fn trail(
+    ways: &[u64],
+    back: bool,
+    u: usize,
+    v: usize,
+    levels: &[u64],
+    depth: usize,
+    met: u64,
+    path: &mut [u8],
+)
+    requires whole { ⌜ (side + side ≤ length (now ways)) × (u < side → v < side) × (v < side → u < side) × (side < length (now levels)) × (side < length (now path)) × (depth ≤ side) ⌝ }
+    requires turned { ⌜ ((x y : ℕ) → x < side → y < side → leads (now ways) (not back) y x ≡ leads (now ways) back x y) ⌝ }
+    requires layers { ⌜ ((start : ℕ) × Layers (leads (now ways) back) u v start (at (now levels)) depth) ⌝ }
+    requires met { ⌜ (0 < met) × ((y : ℕ) → holds met y ≡ true → holds (at (now levels) depth) y ≡ true) ⌝ }
+    ensures { λ r. ⌜ ((start : ℕ) → Layers (leads (now (ways .entry)) back) u v start (at (now (levels .entry))) depth → Path (leads (now (ways .entry)) back) u v start met (at (now (levels .entry))) (at (now (path .exit))) depth) ⌝ }
+{
+    let mut y = take_first(met).first;
+    path[depth] = y as u8;
+    let mut i = depth;
+    while 0 < i {
+        i -= 1;
+        let from = both(levels[i], steps(ways, !back, v, u, y));
+        y = take_first(from).first;
+        path[i] = y as u8;
+    }
 }

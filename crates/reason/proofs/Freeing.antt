@@ -6,7 +6,7 @@ use mathlib.Core.List.{List}
 use native.Mathlib.Omega.{arith}
 use Rattle.numbers.specs.Sums.{only}
 use Rattle.rooms.specs.Room.{seen}
-use Rattle.across.specs.Raise.{Raised}
+use Rattle.across.specs.Free.{Free}
 use Rattle.plan.specs.Plan.{Plan, Set, WellFormed}
 use Rattle.plan.specs.Reason.{own-end, NarrowedEnd, end-marks}
 use Rattle.stand.specs.State.{Ready}
@@ -22,7 +22,7 @@ all-free fits true = omega arith
 
 module _ {p : Plan} {k : ℕ} (w : WellFormed p) (l : k < p .arcs) where
   -- all of a self-loop's width is free
-  pub loop-freed : {room : ℕ → ℕ → ℕ} {over under : ℕ → ℕ} {S : Set} → Ready p room over under → p .to k ≡ p .from k → (upper : Bool)
+  pub loop-freed : {room : ℕ → ℕ → ℕ} {S : Set} → Ready p room → p .to k ≡ p .from k → (upper : Bool)
       → Freed p k upper (p .high k - p .low k) S
   loop-freed y loop upper = record {
     fits = omega arith;
@@ -30,13 +30,12 @@ module _ {p : Plan} {k : ℕ} (w : WellFormed p) (l : k < p .arcs) where
     reason = λ less. absurd (omega arith);
   }
 
-  pub raised-freed : (rooms : List ℕ) {room′ : ℕ → ℕ → ℕ} {over under over′ under′ : ℕ → ℕ} {free : ℕ} {S : Set} → Ready p (seen rooms false) over under
-      → (upper : Bool) → Raised (p .nodes) (seen rooms upper) room′ over′ under′ (p .from k) (p .to k) (p .high k - p .low k) free S
-      → Freed p k upper free S
-  raised-freed rooms y upper r = record {
-    fits = r .measure .fits;
-    end = facing-end rooms (own-standing w l y) upper (r .measure);
-    reason = facing-reason rooms (own-standing w l y) upper (r .measure);
+  pub free-freed : (rooms : List ℕ) {free : ℕ} {S : Set} → Ready p (seen rooms false) → (upper : Bool)
+      → Free (p .nodes) (seen rooms upper) (p .from k) (p .to k) (p .high k - p .low k) free S → Freed p k upper free S
+  free-freed rooms y upper f = record {
+    fits = f .fits;
+    end = facing-end rooms (own-standing w l y) upper f;
+    reason = facing-reason rooms (own-standing w l y) upper f;
   }
 
   module _ {upper : Bool} {free : ℕ} {S : Set} (f : Freed p k upper free S) where

@@ -1,7 +1,7 @@
 // The request of document 01 for the reason of one end of one arc, for every input.
 use crate::Answer;
-use across::raise::Passage;
-use across::raise::raise;
+use across::round::Passage;
+use across::round::measure;
 use marks::mark_arcs_for;
 use marks::mark_nodes;
 use network::check_asked;
@@ -13,6 +13,7 @@ use rooms::Rooms;
 use stand::Asked;
 use stand::ask::ask;
 use stand::build::arc_at;
+use ways::Words;
 ghost use mathlib.Core.Path.{_≡_};
 ghost use mathlib.Core.Bool.{_||_};
 ghost use Prim.Native.Nat.{_≤_, _<_, _/_};
@@ -44,10 +45,9 @@ fn free_of(
     k: usize,
     upper: bool,
     rooms: &mut [u32],
-    over: &mut [u32],
-    under: &mut [u32],
+    ways: &mut [u64],
 ) -> Passage
-    requires ready { ⌜ ReadyDesk (now arcs) (now supplies) (now rooms) (now over) (now under) ⌝ }
+    requires ready { ⌜ ReadyDesk (now arcs) (now supplies) (now rooms) (now ways) ⌝ }
     requires arc { ⌜ k < length (now arcs) / arc-entries ⌝ }
     ensures { λ r. ⌜ Freed (plan-of (now (arcs .entry)) (now (supplies .entry))) k upper (r .free) (holds (r .set)) ⌝ }
 {
@@ -59,7 +59,7 @@ fn free_of(
     if from == to {
         return Passage::whole(width);
     }
-    raise(rooms, upper, over, under, n, from, to, width)
+    measure(rooms, ways, upper, n, from, to, width)
 }
 
 // Says whether the end of arc k stands, in a plan that stands ready; if it moved, marks the reason.
@@ -71,15 +71,14 @@ fn explain(
     arc_buffer: &mut [u32],
     node_buffer: &mut [u8],
     rooms: &mut [u32],
-    over: &mut [u32],
-    under: &mut [u32],
+    ways: &mut [u64],
 ) -> Answer
-    requires ready { ⌜ ReadyDesk (now arcs) (now supplies) (now rooms) (now over) (now under) ⌝ }
+    requires ready { ⌜ ReadyDesk (now arcs) (now supplies) (now rooms) (now ways) ⌝ }
     requires arc { ⌜ k < length (now arcs) / arc-entries ⌝ }
     requires whole { ⌜ (length (now arcs) / arc-entries ≤ length (now «arc_buffer»)) × (length (now supplies) ≤ length (now «node_buffer»)) ⌝ }
     ensures { λ r. ⌜ Told (plan-of (now (arcs .entry)) (now (supplies .entry))) k upper (now («arc_buffer» .entry)) (now («node_buffer» .entry)) (now («arc_buffer» .exit)) (now («node_buffer» .exit)) r ⌝ }
 {
-    let passage = free_of(arcs, supplies, k, upper, rooms, over, under);
+    let passage = free_of(arcs, supplies, k, upper, rooms, ways);
     let free = passage.free;
     let arc = arc_at(arcs, k);
     if free == arc.high - arc.low {
@@ -90,7 +89,7 @@ fn explain(
     Answer::Moved(end_at(upper, arc.low, arc.high, free))
 }
 
-// Works out an end of a well-formed plan on a desk that is lent: rooms, over and under hold zeros.
+// Works out an end of a well-formed plan on a desk that is lent: rooms and words hold zeros.
 fn work_out_on(
     arcs: &[u32],
     supplies: &[i32],
@@ -99,15 +98,14 @@ fn work_out_on(
     arc_buffer: &mut [u32],
     node_buffer: &mut [u8],
     rooms: &mut [u32],
-    over: &mut [u32],
-    under: &mut [u32],
+    ways: &mut [u64],
 ) -> Answer
-    requires desk { ⌜ EmptyDesk (now arcs) (now supplies) (now rooms) (now over) (now under) ⌝ }
+    requires desk { ⌜ EmptyDesk (now arcs) (now supplies) (now rooms) (now ways) ⌝ }
     requires arc { ⌜ k < length (now arcs) / arc-entries ⌝ }
     requires whole { ⌜ (length (now arcs) / arc-entries ≤ length (now «arc_buffer»)) × (length (now supplies) ≤ length (now «node_buffer»)) ⌝ }
     ensures { λ r. ⌜ Told (plan-of (now (arcs .entry)) (now (supplies .entry))) k upper (now («arc_buffer» .entry)) (now («node_buffer» .entry)) (now («arc_buffer» .exit)) (now («node_buffer» .exit)) r ⌝ }
 {
-    let outcome = ask(arcs, supplies, rooms, over, under);
+    let outcome = ask(arcs, supplies, rooms, ways);
     let asked = outcome.asked;
     let Asked::Balances = asked else {
         return Answer::to(asked);
@@ -120,8 +118,7 @@ fn work_out_on(
         arc_buffer,
         node_buffer,
         rooms,
-        over,
-        under,
+        ways,
     )
 }
 
@@ -140,8 +137,7 @@ fn work_out(
     ensures { λ r. ⌜ Told (plan-of (now (arcs .entry)) (now (supplies .entry))) k upper (now («arc_buffer» .entry)) (now («node_buffer» .entry)) (now («arc_buffer» .exit)) (now («node_buffer» .exit)) r ⌝ }
 {
     let mut rooms = [0u32; Rooms::CELLS];
-    let mut over = [0u32; Plan::MOST_NODES];
-    let mut under = [0u32; Plan::MOST_NODES];
+    let mut ways = [0u64; Words::COUNT];
     work_out_on(
         arcs,
         supplies,
@@ -150,8 +146,7 @@ fn work_out(
         arc_buffer,
         node_buffer,
         &mut rooms,
-        &mut over,
-        &mut under,
+        &mut ways,
     )
 }
 

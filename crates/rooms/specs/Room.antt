@@ -5,8 +5,8 @@ use Prim.Native.Nat.{ℕ, _+_, _*_, _^_, _≤_, _<_}
 use mathlib.Core.Path.{_≡_}
 use mathlib.Core.Bool.{Bool, cond, not}
 use mathlib.Core.List.{List}
-use lib.ListN.{length, getD}
-use Rattle.numbers.specs.Sums.{sum, sum-in}
+use lib.ListN.{getD}
+use Rattle.numbers.specs.Sums.{sum-in}
 
 -- the rooms stand in rows of 64
 abbrev pub side : ℕ
@@ -27,28 +27,23 @@ seen rooms back x y = getD rooms (cell back x y) 0
 abbrev pub crossing : ℕ → (ℕ → ℕ → ℕ) → (ℕ → Bool) → ℕ
 crossing n room S = sum-in n S (λ x. sum-in n (λ y. not (S y)) (room x))
 
--- rooms and what is under are small enough to be moved about in 32 bits
-pub record Small (n : ℕ) (room : ℕ → ℕ → ℕ) (under : ℕ → ℕ) : Type 0 where
-  pub pairs-small : (x y : ℕ) → x < n → y < n → (x ≡ y → ⊥) → room x y + room y x < 2 ^ 32
-  pub under-small : sum n under < 2 ^ 32
+-- rooms that lie between the first n nodes, and are small enough to be moved about in 32 bits
+pub record Fitting (n : ℕ) (room : ℕ → ℕ → ℕ) : Type 0 where
+  pub few : n ≤ side
+  pub inside : (x y : ℕ) → x < side → y < side → 0 < room x y → (x < n) × (y < n)
+  pub small : (x y : ℕ) → x < side → y < side → (x ≡ y → ⊥) → room x y + room y x < 2 ^ 32
 
--- from one state to the next: every set's account stays, and so does the room of each pair; nothing comes to be over or under
+-- each pair of nodes has as much room in all
+pub record SamePairs (room room′ : ℕ → ℕ → ℕ) : Type 0 where
+  pub pairs : (x y : ℕ) → x < side → y < side → room x y + room y x ≡ room′ x y + room′ y x
+
+-- from one state to the next every set's account stays, and so does the room of each pair
 pub record Kept (n : ℕ) (room : ℕ → ℕ → ℕ) (over under : ℕ → ℕ) (room′ : ℕ → ℕ → ℕ) (over′ under′ : ℕ → ℕ) : Type 0 where
   pub account : (S : ℕ → Bool)
       → crossing n room S + sum-in n S under + sum-in n S over′ ≡ crossing n room′ S + sum-in n S under′ + sum-in n S over
-  pub pairs : (x y : ℕ) → x < n → y < n → room x y + room y x ≡ room′ x y + room′ y x
-  pub over-falls : (v : ℕ) → v < n → over′ v ≤ over v
-  pub under-falls : sum n under′ ≤ sum n under
+  pub same : SamePairs room room′
 
--- the lists that are lent: rooms in full, and a number for each of at least n nodes
-pub record Lent (n : ℕ) (rooms over under : List ℕ) : Type 0 where
-  pub nodes-fit : n ≤ side
-  pub rooms-whole : side * side ≤ length rooms
-  pub over-whole : n ≤ length over
-  pub under-whole : n ≤ length under
-
--- three lists as long as they were
-pub record SameLengths (a b c a′ b′ c′ : List ℕ) : Type 0 where
-  pub first-length : length a′ ≡ length a
-  pub second-length : length b′ ≡ length b
-  pub third-length : length c′ ≡ length c
+-- the same with nothing over and nothing under: as much room leads out of every set
+pub record Still (n : ℕ) (room room′ : ℕ → ℕ → ℕ) : Type 0 where
+  pub across : (S : ℕ → Bool) → crossing n room S ≡ crossing n room′ S
+  pub same : SamePairs room room′

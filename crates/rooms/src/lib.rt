@@ -1,10 +1,10 @@
-// The rooms between nodes, in rows: how much can still move from one node to another. What is moved keeps every
-// account (specs/Room). It uses `numbers`. Internal: its functions have `requires`.
+// The rooms between nodes, in rows: how much can still move from one node to another (specs/Room); and a number at a
+// node that is made less or more. It uses `numbers`. Internal: most of its functions have `requires`.
 ghost use mathlib.Core.Path.{_≡_};
 ghost use Prim.Native.Nat.{_+_, _*_, _^_, _≤_, _<_};
 ghost use lib.ListN.{length};
 ghost use Rattle.rooms.specs.Room.{side, cell, at, seen};
-ghost use Rattle.rooms.specs.Move.{Pushed, Handed, Less};
+ghost use Rattle.rooms.specs.Move.{Less};
 
 pub struct Rooms {
     pub nodes: usize,
@@ -50,28 +50,6 @@ pub fn add(numbers: &mut [u32], y: usize, d: u32)
     ensures { λ r. ⌜ Less (at (now (numbers .exit))) (at (now (numbers .entry))) y d ⌝ }
 {
     numbers[y] = numbers[y] + d;
-}
-
-// Hands d of the number at one place on to another place.
-pub fn hand(numbers: &mut [u32], from: usize, to: usize, d: u32)
-    requires nodes { ⌜ (from < length (now numbers)) × (to < length (now numbers)) × (from ≡ to → ⊥) ⌝ }
-    requires fits { ⌜ (d ≤ at (now numbers) from) × (at (now numbers) to + d < 2 ^ 32) ⌝ }
-    ensures { λ r. ⌜ Handed (at (now (numbers .entry))) (at (now (numbers .exit))) from to d ⌝ }
-{
-    numbers[from] = numbers[from] - d;
-    numbers[to] = numbers[to] + d;
-}
-
-// Moves d from x to y: so much room from x to y becomes room from y to x.
-pub fn push(rooms: &mut [u32], back: bool, x: usize, y: usize, d: u32)
-    requires whole { ⌜ side * side ≤ length (now rooms) ⌝ }
-    requires nodes { ⌜ (x < side) × (y < side) × (x ≡ y → ⊥) ⌝ }
-    requires fits { ⌜ (d ≤ seen (now rooms) back x y) × (seen (now rooms) back y x + d < 2 ^ 32) ⌝ }
-    ensures { λ r. ⌜ Pushed (seen (now (rooms .entry)) back) (seen (now (rooms .exit)) back) x y d ⌝ }
-{
-    let out = place(back, x, y);
-    let home = place(back, y, x);
-    hand(rooms, out, home, d);
 }
 
 // The lesser of two numbers.

@@ -7,22 +7,20 @@ use native.Mathlib.Omega.{arith}
 use lib.IntN.{pos}
 use Rattle.numbers.specs.Sums.{sum}
 use Rattle.numbers.proofs.Parts.{whole}
-use Rattle.numbers.proofs.Sums.{sum-member}
-use Rattle.rooms.specs.Room.{crossing, Small}
+use Rattle.rooms.specs.Room.{crossing}
 use Rattle.reach.specs.Reach.{Closed}
 use Rattle.engine.specs.Settle as E
-use Rattle.engine.proofs.Sweeping.{kept-small}
-use Rattle.across.proofs.Raising.{crossing-closed, crossing-member}
+use Rattle.across.proofs.Crossing.{crossing-closed, crossing-member}
 use Rattle.plan.specs.Plan.{Plan, Set, WellFormed}
 use Rattle.plan.specs.Shortage.{ShortBy}
 use Rattle.plan.proofs.Certificate.{Ledger, Settled, settled-shortage, settled-shortfall}
 use Rattle.stand.specs.State.{Represents, Ready}
-use Rattle.stand.proofs.Standing.{kept-represents, even-in-all}
+use Rattle.stand.proofs.Standing.{kept-represents, none-over-ready}
 
-module _ {p : Plan} (w : WellFormed p) {room room′ : ℕ → ℕ → ℕ} {over under over′ under′ : ℕ → ℕ} {v : ℕ} {S : Set}
-    (r : Represents p room over under) (s : E.Settled (p .nodes) room over under room′ over′ under′ (p .nodes) v S) where
+module _ {p : Plan} (w : WellFormed p) {room room′ : ℕ → ℕ → ℕ} {over under over′ under′ : ℕ → ℕ} {S : Set}
+    (r : Represents p room over under) (s : E.Settled (p .nodes) room over under room′ over′ under′ S) where
   after : Represents p room′ over′ under′
-  after = kept-represents r (s .kept)
+  after = kept-represents w r (s .kept)
 
   ledger : Ledger p (crossing (p .nodes) room′) over′ under′
   ledger = record { account = after .account }
@@ -31,11 +29,11 @@ module _ {p : Plan} (w : WellFormed p) {room room′ : ℕ → ℕ → ℕ} {ove
   settled = record {
     all-over = record { holds = s .reach .holds .holds };
     none-under = s .none-under;
-    closed = crossing-closed (p .nodes) room′ S v (s .reach .closed);
+    closed = crossing-closed (p .nodes) room′ S (p .nodes) (s .reach .closed);
   }
 
   -- a set out of which no room leads is closed
-  shut : (R : Set) → crossing (p .nodes) room′ R ≡ 0 → Closed (p .nodes) room′ (p .nodes) v R
+  shut : (R : Set) → crossing (p .nodes) room′ R ≡ 0 → Closed (p .nodes) room′ (p .nodes) (p .nodes) R
   shut R none = record { closed = λ x y lx ly rx st. by x y lx ly rx (st .room-there) (R y) refl }
     where
       by : (x y : ℕ) → x < p .nodes → y < p .nodes → R x ≡ true → 0 < room′ x y → (t : Bool) → R y ≡ t → R y ≡ true
@@ -50,12 +48,5 @@ module _ {p : Plan} (w : WellFormed p) {room room′ : ℕ → ℕ → ℕ} {ove
     positive = omega whole;
   }
 
-  pub asked-ready : Small (p .nodes) room under → sum (p .nodes) over′ ≡ 0 → Ready p room′ over′ under′
-  asked-ready small none = record {
-    represents = after;
-    balanced = record {
-      none-over = λ x l. omega (arith, sum-member (p .nodes) over′ x l);
-      none-under = λ x l. omega (arith, sum-member (p .nodes) under′ x l, even-in-all after w);
-    };
-    small = kept-small (s .kept) small;
-  }
+  pub asked-ready : sum (p .nodes) over′ ≡ 0 → Ready p room′
+  asked-ready = none-over-ready w after

@@ -1,6 +1,7 @@
 -- A plan entered one supply and one arc at a time. After k arcs each room is the widths of those arcs from its one node to its
 -- other, and what is over and under at a node is what it has and lacks with the lows that come in and go out. Each arc adds
--- one term to these sums; with all arcs entered, the cut identity over the lows gives every set's account.
+-- one term to these sums; with all arcs entered, the cut identity over the lows gives every set's account, and the rooms lie
+-- between the plan's nodes.
 use Prim.Native.Nat.{ℕ, zero, suc, _+_, _-_, _*_, _^_, _≤_, _<_}
 use mathlib.Core.Path.{_≡_, refl, sym, ap, _∙_}
 use mathlib.Core.Bool.{Bool, true, false, false≢true, not, _&&_}
@@ -11,22 +12,25 @@ use native.Mathlib.Nat.{add-sub-of-le}
 use lib.Dec.{T, eqb}
 use lib.IntN.{ℤ, pos, negsuc, natAbs, _+ℤ_, _-ℤ_}
 use lib.Signed.{leZ, nonNeg}
-use lib.ListN.{length, set}
+use lib.ListN.{length, getD, set}
 use lib.Seq.{getD-set-same, getD-set-other}
-use borrow.Author.Tests.{leb-false, eqb-true, eqb-false, eq-eqb, ne-eqb}
+use borrow.Author.Tests.{leb-false, eqb-true, eqb-false}
 use Rattle.numbers.specs.Sums.{sum, only, sum-in}
 use Rattle.numbers.specs.Parts.{plus, minus}
 use Rattle.numbers.proofs.Parts.{whole, add, magnitude}
-use Rattle.numbers.proofs.Sums.{last-or-before, sum-same, sum-in-same, sum-in-add, sum-in-gathered}
-use Rattle.rooms.specs.Room.{side, at, cell, crossing, Small, Lent}
-use Rattle.rooms.specs.Move.{Less}
-use Rattle.rooms.proofs.Cells.{cell-first, cell-second}
-use Rattle.plan.specs.Limits.{most-arcs, most-supply, widest-high}
-use Rattle.plan.specs.Plan.{Plan, Set, WellFormed}
+use Rattle.numbers.proofs.Sums.{last-or-before, sum-same, sum-in-same, sum-in-some, sum-in-add, sum-in-gathered}
+use Rattle.words.proofs.Bits.{zero-holds}
+use Rattle.rooms.specs.Room.{side, at, cell, seen, crossing, Fitting}
+use Rattle.rooms.specs.Move.{Taken, Less}
+use Rattle.ways.specs.Ways.{row, Ways}
+use Rattle.numbers.proofs.Truth.{both-true}
+use Rattle.plan.specs.Limits.{most-supply, widest-high}
+use Rattle.plan.specs.Plan.{Plan, Set, WellFormed, plan-of}
 use Rattle.plan.specs.Flow.{total, out, into}
 use Rattle.plan.specs.Shortage.{leaves, shortfall}
 use Rattle.plan.proofs.Cut.{shortfall-parts, cut-identity, joined}
 use Rattle.stand.specs.State.{widths, Represents}
+use Rattle.stand.specs.Desk.{EmptyDesk}
 use Rattle.lists.specs.Written.{Written}
 
 -- ---- supplies
@@ -78,20 +82,30 @@ first k p = record {
 
 -- the first k arcs are entered
 pub record Entered (p : Plan) (k : ℕ) (room : ℕ → ℕ → ℕ) (over under : ℕ → ℕ) : Type 0 where
-  pub room-is : (x y : ℕ) → x < p .nodes → y < p .nodes → room x y ≡ widths (first k p) x y
+  pub room-is : (x y : ℕ) → x < side → y < side → room x y ≡ widths (first k p) x y
   pub over-is : (v : ℕ) → v < p .nodes → over v ≡ plus (p .supply v) + into (first k p) (p .low) v
   pub under-is : (v : ℕ) → v < p .nodes → under v ≡ minus (p .supply v) + out (first k p) (p .low) v
 
-pub entered-none : {p : Plan} {rooms : ℕ → ℕ} {over₀ over under₀ under : List ℕ} → ((i : ℕ) → rooms i ≡ 0)
-    → Written (λ v. plus (p .supply v)) (p .nodes) over₀ over → Written (λ v. minus (p .supply v)) (p .nodes) under₀ under
-    → Entered p 0 (λ x y. rooms (cell false x y)) (at over) (at under)
-entered-none empty has lacks = record {
-  room-is = λ x y lx ly. empty (cell false x y);
-  over-is = λ v l. omega (arith, has .there v l);
-  under-is = λ v l. omega (arith, lacks .there v l);
-}
+-- no arc is entered yet: the rooms are empty, and no word shows any room
+module _ {arcs : List ℕ} {supplies : List ℤ} {rooms ways : List ℕ} (e : EmptyDesk arcs supplies rooms ways) where
+  pub empty-ways : Ways rooms ways
+  empty-ways = record {
+    rooms-whole = e .rooms-whole;
+    ways-whole = e .ways-whole;
+    shown = λ back x y lx ly. rw (e .empty (row back x) .1, e .empty (cell back x y) .0) (zero-holds y);
+  }
 
--- what is added at a place shows there and nowhere else
+  pub entered-none : {over₀ over under₀ under : List ℕ}
+      → Written (λ v. plus (getD supplies v (pos 0))) (length supplies) over₀ over
+      → Written (λ v. minus (getD supplies v (pos 0))) (length supplies) under₀ under
+      → Entered (plan-of arcs supplies) 0 (seen rooms false) (at over) (at under)
+  entered-none has lacks = record {
+    room-is = λ x y lx ly. e .empty (cell false x y) .0;
+    over-is = λ v l. omega (arith, has .there v l);
+    under-is = λ v l. omega (arith, lacks .there v l);
+  }
+
+-- what is added at a place, or between two nodes, shows there and nowhere else
 added : {number number′ : ℕ → ℕ} {place d : ℕ} → Less number′ number place d → (i : ℕ) → number′ i ≡ number i + only (eqb place i) d
 added {number} {number′} {place} {d} h i = by (eqb place i) refl
   where
@@ -99,35 +113,23 @@ added {number} {number′} {place} {d} h i = by (eqb place i) refl
     by true e = omega (arith, h .given, ap number (eqb-true place i e), ap number′ (eqb-true place i e))
     by false e = omega (arith, h .elsewhere i (λ e′. eqb-false place i e (sym e′)))
 
--- two pairs of nodes share a place if they are one pair
-cell-same : (x y i j : ℕ) → x < side → y < side → i < side → j < side
-    → eqb (cell false x y) (cell false i j) ≡ (eqb x i && eqb y j)
-cell-same x y i j lx ly li lj = by (eqb x i) (eqb y j) refl refl
+room-added : {room room′ : ℕ → ℕ → ℕ} {x y d : ℕ} → Taken room′ room x y d → (i j : ℕ) → i < side → j < side
+    → room′ i j ≡ room i j + only (eqb x i && eqb y j) d
+room-added {room} {room′} {x} {y} {d} h i j li lj = by (eqb x i) (eqb y j) refl refl
   where
-    by : (s t : Bool) → eqb x i ≡ s → eqb y j ≡ t → eqb (cell false x y) (cell false i j) ≡ (s && t)
-    by true true e f = eq-eqb (cell false x y) (cell false i j) (omega (arith, eqb-true x i e, eqb-true y j f))
-    by true false e f = ne-eqb (cell false x y) (cell false i j) (λ c. eqb-false y j f (cell-second false i j x y li lj lx ly c))
-    by false t e f = ne-eqb (cell false x y) (cell false i j) (λ c. eqb-false x i e (cell-first false i j x y li lj lx ly c))
+    by : (s t : Bool) → eqb x i ≡ s → eqb y j ≡ t → room′ i j ≡ room i j + only (s && t) d
+    by true true e f = rw (← eqb-true x i e, ← eqb-true y j f) (sym (h .there))
+    by true false e f = omega (arith, h .elsewhere i j li lj (λ e′ f′. eqb-false y j f (sym f′)))
+    by false t e f = omega (arith, h .elsewhere i j li lj (λ e′ f′. eqb-false x i e (sym e′)))
 
-pub entered-more : {p : Plan} → WellFormed p → {k : ℕ} → k < p .arcs → {rooms over under rooms′ over′ under′ : ℕ → ℕ}
-    → Entered p k (λ x y. rooms (cell false x y)) over under
-    → Less rooms′ rooms (cell false (p .from k) (p .to k)) (p .high k - p .low k)
-    → Less over′ over (p .to k) (p .low k) → Less under′ under (p .from k) (p .low k)
-    → Entered p (suc k) (λ x y. rooms′ (cell false x y)) over′ under′
-entered-more {p} w {k} l e room-more over-more under-more = record {
-  room-is = λ x y lx ly. omega (
-    arith,
-    added room-more (cell false x y),
-    ap (λ t. only t (p .high k - p .low k))
-        (cell-same (p .from k) (p .to k) x y (node (w .from-node k l)) (node (w .to-node k l)) (node lx) (node ly)),
-    e .room-is x y lx ly,
-  );
+pub entered-more : {p : Plan} {k : ℕ} {room room′ : ℕ → ℕ → ℕ} {over under over′ under′ : ℕ → ℕ} → Entered p k room over under
+    → Taken room′ room (p .from k) (p .to k) (p .high k - p .low k)
+    → Less over′ over (p .to k) (p .low k) → Less under′ under (p .from k) (p .low k) → Entered p (suc k) room′ over′ under′
+entered-more e room-more over-more under-more = record {
+  room-is = λ x y lx ly. omega (arith, room-added room-more x y lx ly, e .room-is x y lx ly);
   over-is = λ v lv. omega (arith, added over-more v, e .over-is v lv);
   under-is = λ v lv. omega (arith, added under-more v, e .under-is v lv);
 }
-  where
-    node : {x : ℕ} → x < p .nodes → x < side
-    node lx = omega (arith, w .nodes-fit)
 
 -- ---- bounds
 
@@ -145,7 +147,7 @@ module _ {p : Plan} (w : WellFormed p) {k : ℕ} (some : k ≤ p .arcs) where
       by false h = omega arith
 
   module _ {room : ℕ → ℕ → ℕ} {over under : ℕ → ℕ} (e : Entered p k room over under) where
-    room-small : (x y : ℕ) → x < p .nodes → y < p .nodes → room x y ≤ k * widest-high
+    room-small : (x y : ℕ) → x < side → y < side → room x y ≤ k * widest-high
     room-small x y lx ly = omega (
       arith,
       e .room-is x y lx ly,
@@ -172,23 +174,26 @@ module _ {p : Plan} (w : WellFormed p) {k : ℕ} (some : k ≤ p .arcs) where
 
 -- the ends of the next arc are within the lent lists, and what it adds fits
 module _ {p : Plan} (w : WellFormed p) {k : ℕ} (l : k < p .arcs) where
-  pub arc-ends : {rooms over under : List ℕ} → Lent (p .nodes) rooms over under
-      → (p .from k < side) × (p .to k < side) × (p .from k < length under) × (p .to k < length over)
-  arc-ends lent = omega (arith, w .from-node k l, w .to-node k l, lent .nodes-fit, lent .over-whole, lent .under-whole)
+  pub arc-ends : {over under : ℕ} → p .nodes ≤ over → p .nodes ≤ under
+      → (p .from k < side) × (p .to k < side) × (p .from k < under) × (p .to k < over)
+  arc-ends over-whole under-whole = omega (arith, w .from-node k l, w .to-node k l, w .nodes-fit)
 
   pub arc-fits : {room : ℕ → ℕ → ℕ} {over under : ℕ → ℕ} → Entered p k room over under
       → (room (p .from k) (p .to k) + (p .high k - p .low k) < 2 ^ 32)
       × (under (p .from k) + p .low k < 2 ^ 32)
       × (over (p .to k) + p .low k < 2 ^ 32)
-  arc-fits e = omega (
-    arith,
-    w .arcs-fit,
-    w .uncrossed k l,
-    w .high-fits k l,
-    room-small w (omega arith) e (p .from k) (p .to k) (w .from-node k l) (w .to-node k l),
-    under-small w (omega arith) e (p .from k) (w .from-node k l),
-    over-small w (omega arith) e (p .to k) (w .to-node k l),
-  )
+  arc-fits e =
+      let from = w .from-node k l in
+      let to = w .to-node k l in
+      omega (
+        arith,
+        w .arcs-fit,
+        w .uncrossed k l,
+        w .high-fits k l,
+        room-small w (omega arith) e (p .from k) (p .to k) (omega (arith, w .nodes-fit)) (omega (arith, w .nodes-fit)),
+        under-small w (omega arith) e (p .from k) from,
+        over-small w (omega arith) e (p .to k) to,
+      )
 
 -- ---- all arcs
 
@@ -208,13 +213,16 @@ module _ {p : Plan} (w : WellFormed p) {room : ℕ → ℕ → ℕ} {over under 
   abbrev width : ℕ → ℕ
   width k = p .high k - p .low k
 
+  node : {x : ℕ} → x < p .nodes → x < side
+  node l = omega (arith, w .nodes-fit)
+
   module _ (S : Set) where
     -- the rooms from a node to those outside a set are the widths of the arcs from it that end outside
     room-outside : (x : ℕ) → x < p .nodes
         → sum-in (p .nodes) (λ y. not (S y)) (room x) ≡ out p (λ k. only (not (S (p .to k))) (width k)) x
     room-outside x lx =
         sum-in-same (p .nodes) (λ y. not (S y)) (room x) (into p (λ k. only (eqb (p .from k) x) (width k)))
-        (λ y ly i. e .room-is x y lx ly ∙ sum-same (p .arcs) _ _ (λ k l. turned (eqb (p .from k) x) (eqb (p .to k) y) (width k)))
+        (λ y ly i. e .room-is x y (node lx) (node ly) ∙ sum-same (p .arcs) _ _ (λ k l. turned (eqb (p .from k) x) (eqb (p .to k) y) (width k)))
         ∙ sum-in-gathered (p .nodes) (p .arcs) (λ y. not (S y)) (p .to) (λ k. only (eqb (p .from k) x) (width k)) (w .to-node)
         ∙ sum-same (p .arcs) _ _ (λ k l. swapped (not (S (p .to k))) (eqb (p .from k) x) (width k))
 
@@ -243,21 +251,19 @@ module _ {p : Plan} (w : WellFormed p) {room : ℕ → ℕ → ℕ} {over under 
   pub entered-represents : Represents p room over under
   entered-represents = record {
     account = entered-account;
-    pairs = λ x y lx ly ne. omega (arith, e .room-is x y lx ly, e .room-is y x ly lx);
+    paired = record { pairs = λ x y lx ly ne. omega (arith, e .room-is x y (node lx) (node ly), e .room-is y x (node ly) (node lx)) };
   }
 
-  pub entered-small : Small (p .nodes) room under
-  entered-small = record {
-    pairs-small = λ x y lx ly ne. omega (
-      arith,
-      w .arcs-fit,
-      room-small w (omega arith) e x y lx ly,
-      room-small w (omega arith) e y x ly lx,
-    );
-    under-small = omega (
-      arith,
-      w .nodes-fit,
-      sum-bound (p .nodes) under (most-supply + most-arcs * widest-high)
-          (λ v l. omega (arith, w .arcs-fit, under-small w (omega arith) e v l)),
-    );
+  -- a room between two nodes is the width of some arc between them
+  between : (x y : ℕ) → x < side → y < side → 0 < room x y → (x < p .nodes) × (y < p .nodes)
+  between x y lx ly more =
+      let (k, l, ends, some) = sum-in-some (p .arcs) (λ k. eqb (p .from k) x && eqb (p .to k) y) width (omega (arith, e .room-is x y lx ly)) in
+      let (from, to) = both-true (eqb (p .from k) x) (eqb (p .to k) y) ends in
+      (rw (eqb-true (p .from k) x from) at (w .from-node k l), rw (eqb-true (p .to k) y to) at (w .to-node k l))
+
+  pub entered-fitting : Fitting (p .nodes) room
+  entered-fitting = record {
+    few = w .nodes-fit;
+    inside = between;
+    small = λ x y lx ly ne. omega (arith, w .arcs-fit, room-small w (omega arith) e x y lx ly, room-small w (omega arith) e y x ly lx);
   }

@@ -6,11 +6,10 @@ use native.Mathlib.Omega.{arith}
 use lib.Dec.{lit≤}
 use lib.IntN.{ℤ}
 use lib.ListN.{replicate}
-use Rattle.rooms.specs.Room.{at, SameLengths}
-use Rattle.engine.proofs.Sweeping.{lent-still}
+use Rattle.rooms.specs.Room.{at}
 use Rattle.plan.specs.Plan.{Set, WellFormed, plan-of}
 use Rattle.plan.specs.Shortage.{ShortBy}
-use Rattle.stand.specs.Desk.{PlanDesk, EmptyDesk, ReadyDesk}
+use Rattle.stand.specs.Desk.{EmptyDesk, ReadyDesk}
 use Rattle.stand.specs.Ask.{AskedOf}
 use Rattle.stand.specs.declared.Asked.the-variants.{Balances, Lacks}
 
@@ -22,34 +21,24 @@ zeros (suc n) (suc i) = zeros n i
 
 module _ {arcs : List ℕ} {supplies : List ℤ} where
   -- a new desk is long enough for 64 nodes, and empty
-  pub new-desk : WellFormed (plan-of arcs supplies) → EmptyDesk arcs supplies (replicate 4096 0) (replicate 64 0) (replicate 64 0)
+  pub new-desk : WellFormed (plan-of arcs supplies) → EmptyDesk arcs supplies (replicate 4096 0) (replicate 128 0)
   new-desk w = record {
-    desk = record {
-      plan = w;
-      lent = record { nodes-fit = w .nodes-fit; rooms-whole = lit≤ tt; over-whole = w .nodes-fit; under-whole = w .nodes-fit };
-    };
-    empty = λ i. (zeros 4096 i, zeros 64 i, zeros 64 i);
+    plan = w;
+    rooms-whole = lit≤ tt;
+    ways-whole = lit≤ tt;
+    empty = λ i. (zeros 4096 i, zeros 128 i);
   }
 
-  module _ {rooms over under rooms′ over′ under′ : List ℕ} where
-    -- what keeps its lengths is still a desk
-    pub still-desk : SameLengths rooms over under rooms′ over′ under′
-        → PlanDesk arcs supplies rooms over under → PlanDesk arcs supplies rooms′ over′ under′
-    still-desk same d = record { plan = d .plan; lent = lent-still same (d .lent) }
-
   -- what was asked is one of the two
-  module _ {rooms over under : List ℕ} {S : Set} where
-    pub told-ready : ReadyDesk arcs supplies rooms over under → AskedOf arcs supplies rooms over under Balances S
+  module _ {rooms ways : List ℕ} {S : Set} where
+    pub told-ready : ReadyDesk arcs supplies rooms ways → AskedOf arcs supplies rooms ways Balances S
     told-ready y = record {
-      desk = y .desk;
       balances = λ e. y;
       lacks = λ value e. let clash : _≡_ {A = ℕ} 0 1 = cc in absurd (omega arith);
     }
 
-    pub told-short : {value : ℤ} → PlanDesk arcs supplies rooms over under → ShortBy (plan-of arcs supplies) value S
-        → AskedOf arcs supplies rooms over under (Lacks value) S
-    told-short {value = value} d m = record {
-      desk = d;
+    pub told-short : {value : ℤ} → ShortBy (plan-of arcs supplies) value S → AskedOf arcs supplies rooms ways (Lacks value) S
+    told-short {value = value} m = record {
       balances = λ e. let clash : _≡_ {A = ℕ} 0 1 = cc in absurd (omega arith);
       lacks = λ other e. let same : value ≡ other = cc in rw same at m;
     }

@@ -1,6 +1,6 @@
 -- How a plan stands in the engine's numbers, from one state to the next: in balance the room that leads out of a set is what its
 -- shortfall is below 0, so the least room across is the room that an arc's count has; and an arc whose share is taken out is held.
-use Prim.Native.Nat.{ℕ, _+_, _-_, _≤_, _<_}
+use Prim.Native.Nat.{ℕ, _+_, _-_, _<_}
 use mathlib.Core.Path.{_≡_, sym, _∙_}
 use mathlib.Core.Bool.{Bool, true, false, cond, false≢true}
 use mathlib.Core.List.{List}
@@ -11,19 +11,19 @@ use lib.IntN.{ℤ, pos, _+ℤ_}
 use lib.Signed.{_≤ℤ_}
 use Rattle.numbers.specs.Sums.{sum, sum-in}
 use Rattle.numbers.proofs.Parts.{whole, add}
-use Rattle.numbers.proofs.Sums.{sumℤ-parts, sum-in-zero}
-use Rattle.rooms.specs.Room.{seen, crossing, Small, Kept}
-use Rattle.across.specs.Raise.{Balanced, NoneShort, Splits, Free, Still}
-use Rattle.across.proofs.Raising.{crossing-all, crossing-turned}
+use Rattle.numbers.proofs.Sums.{sumℤ-parts, sum-in-zero, sum-member}
+use Rattle.rooms.specs.Room.{seen, crossing, SamePairs, Kept, Still}
+use Rattle.across.specs.Free.{Splits, Free}
+use Rattle.across.proofs.Crossing.{crossing-all, crossing-turned}
 use Rattle.plan.specs.Plan.{Plan, Set, WellFormed}
 use Rattle.plan.specs.Flow.{Flow}
 use Rattle.plan.specs.Shortage.{shortfall, Inside}
 use Rattle.plan.specs.Reason.{Separates, NarrowedEnd, EndReason}
-use Rattle.plan.proofs.Cut.{shortfall-parts, flow-leaves-no-shortfall}
+use Rattle.plan.proofs.Cut.{shortfall-parts}
 use Rattle.plan.proofs.Ends.{rest}
 use Rattle.plan.proofs.Hoffman.{hoffman}
 use Rattle.plan.proofs.Narrowing.{smallest-by-room, low-reason-by-room, largest-by-room, high-reason-by-room}
-use Rattle.stand.specs.State.{Represents, Ready}
+use Rattle.stand.specs.State.{Paired, Represents, Ready}
 
 -- the set of all nodes is short of nothing: no arc leaves or enters it, and the supplies sum to 0
 shortfall-all : (p : Plan) → WellFormed p → shortfall p (λ v. true) ≡ pos 0
@@ -36,20 +36,15 @@ shortfall-all p w = omega (
   sumℤ-parts (p .nodes) (p .supply),
 )
 
--- ---- in balance
+-- pairs that keep their room keep the plan's widths
+same-paired : {p : Plan} {room room′ : ℕ → ℕ → ℕ} → WellFormed p → SamePairs room room′ → Paired p room → Paired p room′
+same-paired w same r = record {
+  pairs = λ x y lx ly ne. sym (same .pairs x y (omega (arith, w .nodes-fit)) (omega (arith, w .nodes-fit))) ∙ r .pairs x y lx ly ne;
+}
 
-module _ {p : Plan} {room : ℕ → ℕ → ℕ} {over under : ℕ → ℕ} (r : Represents p room over under) where
-  -- what a set is short of and the room that leads out of it are together nothing
-  pub balanced-account : Balanced (p .nodes) over under → (S : Set) → shortfall p S +ℤ pos (crossing (p .nodes) room S) ≡ pos 0
-  balanced-account b S = omega (
-    whole,
-    r .account S,
-    add (shortfall p S) (pos (crossing (p .nodes) room S + sum-in (p .nodes) S under)),
-    add (shortfall p S) (pos (crossing (p .nodes) room S)),
-    sum-in-zero (p .nodes) S over (λ v l e. b .none-over v l),
-    sum-in-zero (p .nodes) S under (λ v l e. b .none-under v l),
-  )
+-- ---- from one state to the next
 
+module _ {p : Plan} {room : ℕ → ℕ → ℕ} {over under : ℕ → ℕ} (w : WellFormed p) (r : Represents p room over under) where
   -- a state that keeps the accounts and pairs stands for the same plan
   pub kept-represents : {room′ : ℕ → ℕ → ℕ} {over′ under′ : ℕ → ℕ} → Kept (p .nodes) room over under room′ over′ under′
       → Represents p room′ over′ under′
@@ -61,12 +56,12 @@ module _ {p : Plan} {room : ℕ → ℕ → ℕ} {over under : ℕ → ℕ} (r :
       add (shortfall p S) (pos (crossing (p .nodes) room S + sum-in (p .nodes) S under)),
       add (shortfall p S) (pos (crossing (p .nodes) room′ S + sum-in (p .nodes) S under′)),
     );
-    pairs = λ x y lx ly ne. sym (k .pairs x y lx ly) ∙ r .pairs x y lx ly ne;
+    paired = same-paired w (k .same) (r .paired);
   }
 
   -- in all as much is over as under
-  pub even-in-all : WellFormed p → sum (p .nodes) over ≡ sum (p .nodes) under
-  even-in-all w = omega (
+  pub even-in-all : sum (p .nodes) over ≡ sum (p .nodes) under
+  even-in-all = omega (
     whole,
     r .account (λ v. true),
     add (shortfall p (λ v. true)) (pos (crossing (p .nodes) room (λ v. true) + sum (p .nodes) under)),
@@ -74,48 +69,37 @@ module _ {p : Plan} {room : ℕ → ℕ → ℕ} {over under : ℕ → ℕ} (r :
     crossing-all (p .nodes) room,
   )
 
-  -- where the plan has a flow no set is short
-  pub flow-none-short : WellFormed p → (f : ℕ → ℕ) → Flow p f → NoneShort (p .nodes) room over under
-  flow-none-short w f c = record {
-    covered = λ S. omega (
+  -- where nothing is over, nothing is under, and the plan stands ready
+  pub none-over-ready : sum (p .nodes) over ≡ 0 → Ready p room
+  none-over-ready none = record {
+    account = λ S. omega (
       whole,
       r .account S,
       add (shortfall p S) (pos (crossing (p .nodes) room S + sum-in (p .nodes) S under)),
-      flow-leaves-no-shortfall p w f c S,
+      add (shortfall p S) (pos (crossing (p .nodes) room S)),
+      sum-in-zero (p .nodes) S over (λ v l e. omega (arith, sum-member (p .nodes) over v l)),
+      sum-in-zero (p .nodes) S under (λ v l e. omega (arith, sum-member (p .nodes) under v l, even-in-all)),
     );
-    even = even-in-all w;
+    paired = r .paired;
   }
 
-  -- in balance again with the same room out of every set, the plan stands ready
-  pub still-ready : Balanced (p .nodes) over under → Small (p .nodes) room under → {room′ : ℕ → ℕ → ℕ} {over′ under′ : ℕ → ℕ}
-      → Still (p .nodes) room room′ → Balanced (p .nodes) over′ under′ → Ready p room′ over′ under′
-  still-ready b small {room′} {over′} {under′} still b′ = record {
-    represents = record {
-      account = λ S. omega (
-        whole,
-        balanced-account b S,
-        still .across S,
-        add (shortfall p S) (pos (crossing (p .nodes) room S)),
-        add (shortfall p S) (pos (crossing (p .nodes) room′ S + sum-in (p .nodes) S under′)),
-        sum-in-zero (p .nodes) S over′ (λ v l e. b′ .none-over v l),
-        sum-in-zero (p .nodes) S under′ (λ v l e. b′ .none-under v l),
-      );
-      pairs = λ x y lx ly ne. sym (still .pairs x y lx ly) ∙ r .pairs x y lx ly ne;
-    };
-    balanced = b′;
-    small = record {
-      pairs-small = λ x y lx ly ne. omega (arith, still .pairs x y lx ly, small .pairs-small x y lx ly ne);
-      under-small = omega (arith, sum-in-zero (p .nodes) (λ v. true) under′ (λ v l e. b′ .none-under v l));
-    };
+module _ {p : Plan} {room : ℕ → ℕ → ℕ} (w : WellFormed p) (y : Ready p room) where
+  -- with the same room out of every set, the plan stands ready still
+  pub still-ready : {room′ : ℕ → ℕ → ℕ} → Still (p .nodes) room room′ → Ready p room′
+  still-ready {room′} still = record {
+    account = λ S. omega (
+      whole,
+      y .account S,
+      still .across S,
+      add (shortfall p S) (pos (crossing (p .nodes) room S)),
+      add (shortfall p S) (pos (crossing (p .nodes) room′ S)),
+    );
+    paired = same-paired w (still .same) (y .paired);
   }
 
--- a plan in balance has a flow
-pub ready-flow : {p : Plan} → WellFormed p → {room : ℕ → ℕ → ℕ} {over under : ℕ → ℕ} → Ready p room over under → (f : ℕ → ℕ) × Flow p f
-ready-flow {p} w {room} y = hoffman p w .1 (λ S. omega (
-  whole,
-  balanced-account (y .represents) (y .balanced) S,
-  add (shortfall p S) (pos (crossing (p .nodes) room S)),
-))
+  -- a plan in balance has a flow
+  pub ready-flow : (f : ℕ → ℕ) × Flow p f
+  ready-flow = hoffman p w .1 (λ S. omega (whole, y .account S, add (shortfall p S) (pos (crossing (p .nodes) room S))))
 
 -- ---- the ends of an arc
 
@@ -163,18 +147,14 @@ module _ (p : Plan) (k : ℕ) {width free : ℕ} {room : ℕ → ℕ → ℕ} {S
   all-or-tight = by-cases (decLt free width) (λ less. inr (S, apart less, none-left less)) (λ all. inl (omega (arith, m .fits)))
 
 -- the room that is free takes its low end down from its high, or its high end up from its low
-module _ {p : Plan} (w : WellFormed p) (rooms : List ℕ) {over under : ℕ → ℕ} (y : Ready p (seen rooms false) over under)
-    (k : ℕ) (l : k < p .arcs) where
-  outward : (R : Set) → shortfall p R +ℤ pos (crossing (p .nodes) (seen rooms false) R) ≡ pos 0
-  outward = balanced-account (y .represents) (y .balanced)
-
+module _ {p : Plan} (w : WellFormed p) (rooms : List ℕ) (y : Ready p (seen rooms false)) (k : ℕ) (l : k < p .arcs) where
   inward : (R : Set) → shortfall p (rest R) +ℤ pos (crossing (p .nodes) (seen rooms true) R) ≡ pos 0
-  inward R = rw (crossing-turned (p .nodes) (seen rooms false) R) (balanced-account (y .represents) (y .balanced) (rest R))
+  inward R = rw (crossing-turned (p .nodes) (seen rooms false) R) (y .account (rest R))
 
   pub free-end : (upper : Bool) {free : ℕ} {S : Set} → Free (p .nodes) (seen rooms upper) (p .from k) (p .to k) (p .high k - p .low k) free S
       → NarrowedEnd p k upper (cond upper (p .low k + free) (p .high k - free))
   free-end false {free} m = smallest-by-room p w (ready-flow w y .0) (ready-flow w y .1) k l free
-      (left-free p k (shortfall p) outward m) (m .fits) (all-or-tight p k (shortfall p) outward m)
+      (left-free p k (shortfall p) (y .account) m) (m .fits) (all-or-tight p k (shortfall p) (y .account) m)
   free-end true {free} m = largest-by-room p w (ready-flow w y .0) (ready-flow w y .1) k l free
       (left-free p k (λ R. shortfall p (rest R)) inward m) (m .fits) (all-or-tight p k (λ R. shortfall p (rest R)) inward m)
 
@@ -182,8 +162,8 @@ module _ {p : Plan} (w : WellFormed p) (rooms : List ℕ) {over under : ℕ → 
   pub free-reason : (upper : Bool) {free : ℕ} {S : Set} → Free (p .nodes) (seen rooms upper) (p .from k) (p .to k) (p .high k - p .low k) free S
       → free < p .high k - p .low k → EndReason p k upper (cond upper (p .low k + free) (p .high k - free)) S
   free-reason false {free} {S} m less = low-reason-by-room p w (ready-flow w y .0) (ready-flow w y .1) k l free
-      (left-free p k (shortfall p) outward m) less S (apart p k (shortfall p) outward m less)
-      (none-left p k (shortfall p) outward m less) (least-such p k (shortfall p) outward m less)
+      (left-free p k (shortfall p) (y .account) m) less S (apart p k (shortfall p) (y .account) m less)
+      (none-left p k (shortfall p) (y .account) m less) (least-such p k (shortfall p) (y .account) m less)
   free-reason true {free} {S} m less = high-reason-by-room p w (ready-flow w y .0) (ready-flow w y .1) k l free
       (left-free p k (λ R. shortfall p (rest R)) inward m) less S (apart p k (λ R. shortfall p (rest R)) inward m less)
       (none-left p k (λ R. shortfall p (rest R)) inward m less) (least-such p k (λ R. shortfall p (rest R)) inward m less)
@@ -193,7 +173,7 @@ pub seen-still : (n : ℕ) (rooms rooms′ : List ℕ) (upper : Bool) → Still 
 seen-still n rooms rooms′ false still = still
 seen-still n rooms rooms′ true still = record {
   across = λ S. sym (turned rooms S) ∙ still .across (rest S) ∙ turned rooms′ S;
-  pairs = λ x y lx ly. omega (arith, still .pairs x y lx ly);
+  same = record { pairs = λ x y lx ly. still .same .pairs y x ly lx };
 }
   where
     turned : (list : List ℕ) (S : Set) → crossing n (seen list true) (rest S) ≡ crossing n (seen list false) S

@@ -3,6 +3,7 @@ use crate::Asked;
 use crate::Outcome;
 use crate::build::build;
 use engine::settle::settle;
+use plan::Plan;
 ghost use mathlib.Core.Path.{_≡_};
 ghost use Prim.Native.Nat.{_≤_};
 ghost use lib.IntN.{pos};
@@ -28,21 +29,22 @@ fn total_of(numbers: &[u32], n: usize) -> i64
     total as i64
 }
 
-// Asks the plan. The rooms, over and under that are lent hold zeros; afterwards they are the plan's, in
-// balance, or the set that is returned is the shortage set.
-pub fn ask(
+// Asks the plan with room that is lent for what is over and what lacks at each node.
+fn ask_on(
     arcs: &[u32],
     supplies: &[i32],
     rooms: &mut [u32],
+    ways: &mut [u64],
     over: &mut [u32],
     under: &mut [u32],
 ) -> Outcome
-    requires { ⌜ EmptyDesk (now arcs) (now supplies) (now rooms) (now over) (now under) ⌝ }
-    ensures { λ r. ⌜ AskedOf (now (arcs .entry)) (now (supplies .entry)) (now (rooms .exit)) (now (over .exit)) (now (under .exit)) (r .asked) (holds (r .set)) ⌝ }
+    requires desk { ⌜ EmptyDesk (now arcs) (now supplies) (now rooms) (now ways) ⌝ }
+    requires lists { ⌜ (length (now supplies) ≤ length (now over)) × (length (now supplies) ≤ length (now under)) ⌝ }
+    ensures { λ r. ⌜ AskedOf (now (arcs .entry)) (now (supplies .entry)) (now (rooms .exit)) (now (ways .exit)) (r .asked) (holds (r .set)) ⌝ }
 {
     let n = supplies.len();
-    build(arcs, supplies, rooms, over, under);
-    let set = settle(rooms, false, over, under, n, n, n);
+    build(arcs, supplies, rooms, ways, over, under);
+    let set = settle(rooms, ways, n, over, under);
     let total = total_of(over, n);
     if total == 0 {
         return Outcome {
@@ -54,4 +56,15 @@ pub fn ask(
         asked: Asked::Lacks(total),
         set,
     }
+}
+
+// Asks the plan. The rooms and words that are lent hold zeros; afterwards they are the plan's, in balance, or the set
+// that is returned is the shortage set.
+pub fn ask(arcs: &[u32], supplies: &[i32], rooms: &mut [u32], ways: &mut [u64]) -> Outcome
+    requires { ⌜ EmptyDesk (now arcs) (now supplies) (now rooms) (now ways) ⌝ }
+    ensures { λ r. ⌜ AskedOf (now (arcs .entry)) (now (supplies .entry)) (now (rooms .exit)) (now (ways .exit)) (r .asked) (holds (r .set)) ⌝ }
+{
+    let mut over = [0u32; Plan::MOST_NODES];
+    let mut under = [0u32; Plan::MOST_NODES];
+    ask_on(arcs, supplies, rooms, ways, &mut over, &mut under)
 }

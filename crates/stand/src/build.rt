@@ -1,18 +1,20 @@
 // A plan in the engine's numbers: every arc at its low, the rest of its width as room. Internal.
 use plan::Arc;
 use rooms::add;
-use rooms::place;
+use ways::add_room;
 ghost use mathlib.Core.Path.{_≡_};
 ghost use mathlib.Core.Bool.{false};
 ghost use Prim.Native.Nat.{ℕ, _+_, _-_, _*_, _/_, _^_, _≤_, _<_};
 ghost use lib.IntN.{pos, natAbs};
 ghost use lib.ListN.{length, getD};
 ghost use Rattle.numbers.specs.Parts.{plus, minus};
-ghost use Rattle.rooms.specs.Room.{side, at, cell, seen, Small, Lent};
-ghost use Rattle.rooms.specs.Move.{Less};
+ghost use Rattle.rooms.specs.Room.{side, at, seen};
+ghost use Rattle.rooms.specs.Move.{Taken, Less};
+ghost use Rattle.ways.specs.Ways.{Ways, Desk};
 ghost use Rattle.plan.specs.Limits.{most-supply, arc-entries};
-ghost use Rattle.plan.specs.Plan.{WellFormed, plan-of};
+ghost use Rattle.plan.specs.Plan.{plan-of};
 ghost use Rattle.stand.specs.State.{Represents};
+ghost use Rattle.stand.specs.Desk.{EmptyDesk};
 ghost use Rattle.lists.specs.Written.{Written};
 
 // What a node of this supply has.
@@ -63,35 +65,42 @@ pub fn arc_at(arcs: &[u32], k: usize) -> Arc
 
 // Enters an arc at its low, which is under at the node that it leaves and over at the one that it enters;
 // the rest of its width is room between them.
-fn enter_arc(arc: Arc, rooms: &mut [u32], over: &mut [u32], under: &mut [u32])
-    requires whole { ⌜ side * side ≤ length (now rooms) ⌝ }
+fn enter_arc(arc: Arc, rooms: &mut [u32], ways: &mut [u64], over: &mut [u32], under: &mut [u32])
+    requires ways { ⌜ Ways (now rooms) (now ways) ⌝ }
     requires ends { ⌜ (arc .from < side) × (arc .to < side) × (arc .from < length (now under)) × (arc .to < length (now over)) ⌝ }
     requires range { ⌜ arc .low ≤ arc .high ⌝ }
     requires fits { ⌜ (seen (now rooms) false (arc .from) (arc .to) + (arc .high - arc .low) < 2 ^ 32) × (at (now under) (arc .from) + arc .low < 2 ^ 32) × (at (now over) (arc .to) + arc .low < 2 ^ 32) ⌝ }
-    ensures room { λ r. ⌜ Less (at (now (rooms .exit))) (at (now (rooms .entry))) (cell false (arc .from) (arc .to)) (arc .high - arc .low) ⌝ }
+    ensures ways { λ r. ⌜ Ways (now (rooms .exit)) (now (ways .exit)) ⌝ }
+    ensures room { λ r. ⌜ Taken (seen (now (rooms .exit)) false) (seen (now (rooms .entry)) false) (arc .from) (arc .to) (arc .high - arc .low) ⌝ }
     ensures over { λ r. ⌜ Less (at (now (over .exit))) (at (now (over .entry))) (arc .to) (arc .low) ⌝ }
     ensures under { λ r. ⌜ Less (at (now (under .exit))) (at (now (under .entry))) (arc .from) (arc .low) ⌝ }
 {
     let from = arc.from as usize;
     let to = arc.to as usize;
-    add(rooms, place(false, from, to), arc.high - arc.low);
+    add_room(rooms, ways, from, to, arc.high - arc.low);
     add(under, from, arc.low);
     add(over, to, arc.low);
 }
 
-// Enters a well-formed plan into rooms, over and under, which hold only zeros.
-pub fn build(arcs: &[u32], supplies: &[i32], rooms: &mut [u32], over: &mut [u32], under: &mut [u32])
-    requires plan { ⌜ WellFormed (plan-of (now arcs) (now supplies)) ⌝ }
-    requires lent { ⌜ Lent (length (now supplies)) (now rooms) (now over) (now under) ⌝ }
-    requires empty { ⌜ ((i : ℕ) → (at (now rooms) i ≡ 0) × (at (now over) i ≡ 0) × (at (now under) i ≡ 0)) ⌝ }
+// Enters a well-formed plan into rooms with their words, which hold only zeros, and into over and under.
+pub fn build(
+    arcs: &[u32],
+    supplies: &[i32],
+    rooms: &mut [u32],
+    ways: &mut [u64],
+    over: &mut [u32],
+    under: &mut [u32],
+)
+    requires desk { ⌜ EmptyDesk (now arcs) (now supplies) (now rooms) (now ways) ⌝ }
+    requires lists { ⌜ (length (now supplies) ≤ length (now over)) × (length (now supplies) ≤ length (now under)) ⌝ }
+    ensures desk { λ r. ⌜ Desk (length (now (supplies .entry))) (now (rooms .exit)) (now (ways .exit)) ⌝ }
     ensures entered { λ r. ⌜ Represents (plan-of (now (arcs .entry)) (now (supplies .entry))) (seen (now (rooms .exit)) false) (at (now (over .exit))) (at (now (under .exit))) ⌝ }
-    ensures small { λ r. ⌜ Small (length (now (supplies .entry))) (seen (now (rooms .exit)) false) (at (now (under .exit))) ⌝ }
 {
     enter_supplies(supplies, over, under);
     let count = arcs.len() / Arc::ENTRIES;
     let mut k = 0;
     while k < count {
-        enter_arc(arc_at(arcs, k), rooms, over, under);
+        enter_arc(arc_at(arcs, k), rooms, ways, over, under);
         k += 1;
     }
 }

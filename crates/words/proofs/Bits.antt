@@ -1,17 +1,17 @@
--- The bits of a word: of a word cut in half, of the empty set, of one number and of all below one, of two words joined and of
--- one without the other, and the lowest. The bits say which word it is.
+-- The bits of a word: of a word cut in half, of the empty set, of one number, of two words joined, met and of one without
+-- the other, and the lowest. The bits say which word it is.
 use Prim.Native.Nat.{ℕ, zero, suc, _+_, _-_, _*_, _/_, _%_, _^_, _≤_, _<_}
 use mathlib.Core.Path.{_≡_, refl, ap, sym, _∙_}
-use mathlib.Core.Bool.{Bool, true, false, not, _&&_, _||_, and-true, and-self}
+use mathlib.Core.Bool.{Bool, true, false, not, _&&_, _||_, and-true, and-self, false≢true}
 use mathlib.Core.Logic.{by-cases}
 use native.Mathlib.Omega.{arith}
 use native.Mathlib.Decide.{ℕ-discrete, decLt}
 use native.Mathlib.Nat.{div-one, zero-div, mod-lt, div-eq-of-lt, two-pow-succ}
-use lib.Dec.{eqb, ltb}
-use lib.Pow.{pow-pos, pow-mono, shr-shr}
+use lib.Dec.{eqb}
+use lib.Pow.{pow-mono, shr-shr}
 use lib.Bits.{bitAnd, bitOr, and-shr, and-mod, and-le-r, or-shr, or-mod, shifted-half, shifted-even}
 use lib.Count.{trailingZeros, under}
-use borrow.Author.Tests.{eqb-true, eqb-false, eq-eqb, ne-eqb, lt-ltb, le-ltb}
+use borrow.Author.Tests.{eqb-true, eqb-false, eq-eqb, ne-eqb}
 use Rattle.numbers.specs.Sums.{only}
 use Rattle.numbers.proofs.Sums.{eqb-cases}
 use Rattle.words.specs.Word.{holds, SplitOf}
@@ -31,6 +31,11 @@ holds-last word = ap (λ x. eqb (x % 2) 1) (div-one word)
 pub zero-holds : (y : ℕ) → holds 0 y ≡ false
 zero-holds y = rw (zero-div (2 ^ y))
 
+-- a set that has a number is not the empty one
+pub some-holds : (word y : ℕ) → holds word y ≡ true → 0 < word
+some-holds zero y e = absurd (false≢true (sym (zero-holds y) ∙ e))
+some-holds (suc word) y e = omega arith
+
 -- a bit is 1 where the number is in the set, else 0
 pub bit-holds : (word y : ℕ) → word / 2 ^ y % 2 ≡ only (holds word y) 1
 bit-holds word y = eqb-cases (λ t. word / 2 ^ y % 2 ≡ only t 1) (word / 2 ^ y % 2) 1 (λ e. e) (λ ne. omega arith)
@@ -40,7 +45,7 @@ pub one-told : (t : Bool) → eqb (only t 1) 1 ≡ t
 one-told true = refl
 one-told false = refl
 
--- ---- the word of one number, and of all below n
+-- ---- the word of one number
 
 same-suc : (a b : ℕ) → eqb a b ≡ eqb (suc a) (suc b)
 same-suc a b = by-cases (ℕ-discrete a b)
@@ -54,19 +59,6 @@ one-holds (suc y) zero =
     holds-last (1 * 2 ^ suc y) ∙ ap (λ (x : ℕ). eqb x 1) (shifted-even 1 y) ∙ sym (ne-eqb 0 (suc y) (λ e. omega arith))
 one-holds (suc y) (suc z) =
     holds-half (1 * 2 ^ suc y) z ∙ ap (λ (x : ℕ). holds x z) (shifted-half 1 y) ∙ one-holds y z ∙ same-suc z y
-
-pub below-holds : (n z : ℕ) → holds (2 ^ n - 1) z ≡ ltb z n
-below-holds zero z = zero-holds z ∙ sym (le-ltb z 0 (omega arith))
-below-holds (suc n) zero =
-    holds-last (2 ^ suc n - 1) ∙ eq-eqb ((2 ^ suc n - 1) % 2) 1 (omega (arith, two-pow-succ n, pow-pos n)) ∙ sym (lt-ltb 0 (suc n) (omega arith))
-below-holds (suc n) (suc z) =
-    let half : (2 ^ suc n - 1) / 2 ≡ 2 ^ n - 1 = omega (arith, two-pow-succ n, pow-pos n) in
-    holds-half (2 ^ suc n - 1) z ∙ ap (λ (x : ℕ). holds x z) half ∙ below-holds n z ∙ same-test
-  where
-    same-test : ltb z n ≡ ltb (suc z) (suc n)
-    same-test = by-cases (decLt z n)
-        (λ l. lt-ltb z n l ∙ sym (lt-ltb (suc z) (suc n) (omega arith)))
-        (λ no. le-ltb z n (omega arith) ∙ sym (le-ltb (suc z) (suc n) (omega arith)))
 
 -- ---- bit by bit: two words joined, and one without the other
 
@@ -93,7 +85,7 @@ module _ (op : ℕ → ℕ → ℕ) (test : Bool → Bool → Bool)
 pub either-holds : (a b y : ℕ) → holds (bitOr a b) y ≡ (holds a y || holds b y)
 either-holds = bitwise-holds bitOr _||_ refl refl refl refl or-shr or-mod
 
-both-holds : (a b y : ℕ) → holds (bitAnd a b) y ≡ (holds a y && holds b y)
+pub both-holds : (a b y : ℕ) → holds (bitAnd a b) y ≡ (holds a y && holds b y)
 both-holds = bitwise-holds bitAnd _&&_ refl refl refl refl and-shr and-mod
 
 -- past the bits of a number there is none

@@ -3,12 +3,9 @@
 ghost use mathlib.Core.Path.{_≡_};
 ghost use mathlib.Core.Bool.{not, _&&_, _||_};
 ghost use Prim.Native.Nat.{ℕ, _≤_, _<_};
-ghost use lib.Dec.{eqb, ltb};
+ghost use lib.Dec.{eqb};
 ghost use Rattle.numbers.specs.Sums.{only};
 ghost use Rattle.words.specs.Word.{word-bits, holds, SplitOf};
-
-// How many numbers a word has room for.
-const BITS: usize = 64;
 
 // 1 for y in a set, 0 for y outside.
 pub fn bit(word: u64, y: usize) -> u64
@@ -34,22 +31,18 @@ pub fn one(y: usize) -> u64
     1u64 << y
 }
 
-// The set of all numbers below n.
-pub fn below(n: usize) -> u64
-    requires { ⌜ n ≤ word-bits ⌝ }
-    ensures { λ r. ⌜ ((z : ℕ) → holds r z ≡ ltb z n) ⌝ }
-{
-    if n == BITS {
-        return !0;
-    }
-    (1u64 << n) - 1
-}
-
 // What is in either of two sets.
 pub fn either(a: u64, b: u64) -> u64
     ensures { λ r. ⌜ ((z : ℕ) → holds r z ≡ (holds a z || holds b z)) ⌝ }
 {
     a | b
+}
+
+// What is in both of two sets.
+pub fn both(a: u64, b: u64) -> u64
+    ensures { λ r. ⌜ ((z : ℕ) → holds r z ≡ (holds a z && holds b z)) ⌝ }
+{
+    a & b
 }
 
 // What is in the first set and not in the second.

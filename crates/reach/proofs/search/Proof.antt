@@ -1,115 +1,89 @@
--- The rows of all nodes before the head are finished; at the end of the log, or of the nodes, the set is closed.
-use Prim.Native.Nat.{_-_}
+-- Each new level has nodes that were not reached yet, so there are at most as many levels as nodes.
 use mathlib.Core.Path.{_≡_, refl, _∙_}
-use lib.ListN.{length}
+use mathlib.Core.Bool.{true}
+use lib.ListN.{length, length-set}
+use Prim.Native.Nat.{ℕ, _+_, _-_, _<_}
+use lib.Count.{trailingZeros}
+use Rattle.rooms.specs.Room.{side, at}
+use Rattle.ways.specs.Ways.{leads}
 use Rattle.words.specs.Word.{holds}
-use Rattle.rooms.specs.Room.{at, seen}
-use Rattle.reach.specs.Searched.{Desk}
-use Rattle.reach.proofs.SearchLoop.{Searching, searching-more, reached, reached-all, searched}
+use Rattle.words.proofs.Bits.{first-taken}
+use Rattle.reach.proofs.Layering.{Seeking, seek-none, seek-more, seek-end, seek-met, seek-short}
 use borrow.Author.Needs.{needs}
 use native.Mathlib.Omega.{arith}
 use Rattle.reach.proofs.search.Statement.{statement}
 use Rattle.reach.proofs.search.Tie as tie
 
 abbrev Inv-loop : tie.InvT-loop
-Inv-loop rooms back over n u v order₀ finder₀ found₀ head₀ order finder found head =
-    (length order ≡ length order₀)
-    × (length finder ≡ length finder₀)
-    × Searching n (seen rooms back) (at over) u v (holds (found .reached)) order finder (found .starts) (found .count) head
+Inv-loop ways back u v start goal levels₀ depth₀ front₀ reached₀ levels depth front reached =
+    (length levels ≡ length levels₀) × Seeking (leads ways back) u v start goal levels depth front reached
 
 abbrev μ-loop : tie.MeasureT-loop
-μ-loop rooms back over n u v order₀ finder₀ found₀ head₀ order finder found head = n - head
+μ-loop ways back u v start goal levels₀ depth₀ front₀ reached₀ levels depth front reached = side - depth
 
--- behind the loop's head: the call of `begin`, and the function's entry
-abbrev begun : tie.At-loop Inv-loop μ-loop → tie.After-begin Inv-loop μ-loop
-begun a = a .before .before .before
+-- a node of what is new
+fresh : (c : tie.Else2 Inv-loop μ-loop) → (y : ℕ) × (y < side) × (holds (c .before .but .result) y ≡ true)
+fresh c = let f = first-taken (c .before .but .result) (omega arith) (omega arith) in (trailingZeros 64 (c .before .but .result), f .in-word, f .there)
 
-abbrev start : tie.At-loop Inv-loop μ-loop → tie.Start Inv-loop μ-loop
-start a = begun a .before .before .before .before .before .before
+short : (c : tie.Else2 Inv-loop μ-loop) → c .before .before .before .before .before .loop .depth < side
+short c = let f = fresh c in
+    seek-short _ _ _ _ _ (c .before .before .before .before .before .loop .inv .1) (c .before .before .before .before .both .result) (c .before .before .widen .result) (c .before .but .result)
+    (c .before .before .before .before .both .ensures) (omega (arith, c .before .before .before .if1 .left)) (c .before .before .widen .ensures) (c .before .but .ensures) (f .0) (f .1) (f .2)
 
--- behind the end of a turn: the call of `look_at`, and the loop's test
-abbrev looked : tie.After-slice-known5 Inv-loop μ-loop → tie.After-look-at Inv-loop μ-loop
-looked c = c .before .before .before .before
-
-abbrev turn : tie.After-slice-known5 Inv-loop μ-loop → tie.Then1 Inv-loop μ-loop
-turn c = looked c .before .before .before .before .before
-
--- the lists now are as long as they came
-order-kept : (a : tie.At-loop Inv-loop μ-loop) → length (a .loop .order) ≡ length (start a .args .order .now)
-order-kept a = a .loop .inv .0 ∙ begun a .begin .kept .1 .1 .0
-
-desk : (a : tie.At-loop Inv-loop μ-loop) → Desk (start a .args .n) (a .loop .order) (a .loop .finder)
-desk a =
-    let d = start a .pre .1 .1 .1 in
-    record {
-      order-whole = rw (order-kept a) (d .order-whole);
-      finder-whole = rw (a .loop .inv .1) (d .finder-whole);
-    }
-
-begin-requires : tie.Need-begin-requires Inv-loop μ-loop
-begin-requires c κs = search needs
+slice-write-levels : tie.Need-slice-write-levels Inv-loop μ-loop
+slice-write-levels c = search needs
 
 loop-holds : tie.Need-loop-holds Inv-loop μ-loop
-loop-holds c =
-    let e = c .before .before .begin .ensures in (
-      refl,
-      refl,
-      record {
-        log = e .0 _ _ _ _;
-        holds-all = e .1 .0;
-        within = e .1 .1;
-        done = λ i h. absurd (omega arith);
-      },
-    )
+loop-holds c = (refl, seek-none _ _ _ _ _ (c .before .before .args .levels .now) (omega (arith, c .before .before .pre)))
 
-look-at-requires : tie.Need-look-at-requires Inv-loop μ-loop
-look-at-requires c κs =
-    let t = c .before .before .before .before in
-    let a = t .before .before in
-    let p = start a .pre in
-    (p .0, (p .1 .0, (desk a, (t .if1 .taken, (_, a .loop .inv .2 .log)))))
+both-requires : tie.Need-both-requires Inv-loop μ-loop
+both-requires c κs = search needs
 
-add-head : tie.Need-add-head Inv-loop μ-loop
-add-head c =
-    let a = turn c .before .before in
-    omega (arith, turn c .if1 .taken, a .loop .inv .2 .log .count-fits, start a .pre .0)
+widen-requires : tie.Need-widen-requires Inv-loop μ-loop
+widen-requires c κs = search needs
+
+but-requires : tie.Need-but-requires Inv-loop μ-loop
+but-requires c κs = search needs
+
+add-depth : tie.Need-add-depth Inv-loop μ-loop
+add-depth c = record { fits = omega (arith, short c) }
+
+mul-levels : tie.Need-mul-levels Inv-loop μ-loop
+mul-levels c = record { fits = omega (arith, short c) }
+
+slice-write-levels-2 : tie.Need-slice-write-levels-2 Inv-loop μ-loop
+slice-write-levels-2 c =
+    omega (arith, short c, c .before .before .before .before .before .before .before .before .pre, c .before .before .before .before .before .loop .inv .0 ∙ length-set (c .before .before .before .before .before .before .before .before .args .levels .now) 0 (c .before .before .before .before .before .before .before .before .args .start))
+
+either-requires : tie.Need-either-requires Inv-loop μ-loop
+either-requires c κs = search needs
 
 loop-less : tie.Need-loop-less Inv-loop μ-loop
-loop-less c = omega (arith, turn c .if1 .taken, turn c .before .before .loop .inv .2 .log .count-fits)
+loop-less c = omega (arith, short (c .before))
 
 loop-again : tie.Need-loop-again Inv-loop μ-loop
 loop-again c =
-    let inv = turn c .before .before .loop .inv in
-    let k = looked c .look-at .kept .1 .1 .1 .1 .1 .1 in
-    let e = looked c .look-at .ensures in (
-      k .0 ∙ inv .0,
-      k .1 .0 ∙ inv .1,
-      searching-more (inv .2) (turn c .if1 .taken) (e .0 _ (inv .2 .log)) (e .1 .0) (e .1 .1 .0) (e .1 .1 .1 .0 (inv .2 .within)) (e .1 .1 .1 .1 .0),
+    let f = fresh (c .before) in (
+      length-set (c .before .before .before .before .before .before .loop .levels) (c .before .before .before .before .before .before .loop .depth + 1) (c .before .before .but .result) ∙ c .before .before .before .before .before .before .loop .inv .0,
+      seek-more _ _ _ _ _ (c .before .before .before .before .before .before .loop .inv .1) (c .before .before .before .before .before .both .result) (c .before .before .before .widen .result) (c .before .before .but .result) (c .before .before .before .before .before .both .ensures) (omega (arith, c .before .before .before .before .if1 .left)) (c .before .before .before .widen .ensures) (c .before .before .but .ensures)
+          (c .either .result) (f .0) (c .either .ensures) (f .1) (f .2)
+          (omega (arith, short (c .before), c .before .before .before .before .before .before .before .before .before .pre, c .before .before .before .before .before .before .loop .inv .0 ∙ length-set (c .before .before .before .before .before .before .before .before .before .args .levels .now) 0 (c .before .before .before .before .before .before .before .before .before .args .start))),
     )
 
 same-length : tie.Need-same-length Inv-loop μ-loop
-same-length c = order-kept (c .before .before)
-
-same-length-2 : tie.Need-same-length-2 Inv-loop μ-loop
-same-length-2 c = c .before .before .loop .inv .1
+same-length c =
+    c .before .before .loop .inv .0 ∙ length-set (c .before .before .before .before .before .args .levels .now) 0 (c .before .before .before .before .before .args .start)
 
 returns : tie.Need-returns Inv-loop μ-loop
-returns c =
-    let a = c .before .before in
-    let s = a .loop .inv .2 in
-    searched (a .loop .found .reached) s (desk a) (reached s (c .if1 .left))
+returns c = seek-met _ _ _ _ _ (c .before .before .loop .inv .1) (c .before .both .result) (c .before .both .ensures) (c .if1 .taken)
 
-same-length-3 : tie.Need-same-length-3 Inv-loop μ-loop
-same-length-3 c = order-kept (c .before .before .before .before)
-
-same-length-4 : tie.Need-same-length-4 Inv-loop μ-loop
-same-length-4 c = c .before .before .before .before .loop .inv .1
+same-length-2 : tie.Need-same-length-2 Inv-loop μ-loop
+same-length-2 c =
+    c .before .before .before .before .before .loop .inv .0 ∙ length-set (c .before .before .before .before .before .before .before .before .args .levels .now) 0 (c .before .before .before .before .before .before .before .before .args .start)
 
 returns-2 : tie.Need-returns-2 Inv-loop μ-loop
 returns-2 c =
-    let a = c .before .before .before .before in
-    let s = a .loop .inv .2 in
-    searched (a .loop .found .reached) s (desk a) (reached-all s (c .if2 .taken))
+    let none : c .before .before .before .before .both .result ≡ 0 = omega (arith, c .before .before .before .if1 .left) in rw none at (seek-end _ _ _ _ _ (c .before .before .before .before .before .loop .inv .1) (c .before .before .before .before .both .result) (c .before .before .widen .result) (c .before .but .result) (c .before .before .before .before .both .ensures) (omega (arith, c .before .before .before .if1 .left)) (c .before .before .widen .ensures) (c .before .but .ensures) (c .if2 .taken))
 
 pub search-spec : {M : Type 1} → statement M
 search-spec =
@@ -117,15 +91,18 @@ search-spec =
     (tie.spec
     Inv-loop
     μ-loop
-    begin-requires
+    slice-write-levels
     loop-holds
-    look-at-requires
-    add-head
+    both-requires
+    widen-requires
+    but-requires
+    add-depth
+    mul-levels
+    slice-write-levels-2
+    either-requires
     loop-less
     loop-again
     same-length
-    same-length-2
     returns
-    same-length-3
-    same-length-4
+    same-length-2
     returns-2)

@@ -19,10 +19,10 @@ enum-told c = search needs
 
 first-flow-requires : tie.Need-first-flow-requires
 first-flow-requires c κs =
-    let on = c .before .before .before .before .before .before .before .before .before .before .before .before .ask .ensures .balances (c .before .before .before .before .enum-told .given .1) in
-    let arcs = c .before .before .before .before .before .before .before .before .before .before .before .before .before .before .before .before .before .before .before .before .before .before .args .arcs .now in
-    let supplies = c .before .before .before .before .before .before .before .before .before .before .before .before .before .before .before .before .before .before .before .before .before .before .args .supplies .now in
-    (on .desk .lent, (c .before .before .before .before .before .before .before .before .before .before .before .before .before .before .before .before .before .before .before .before .before .before .pre .1 .0, (plan-of arcs supplies, (listed-whole arcs supplies 0, on .desk .plan, on .ready))))
+    let on = c .before .before .before .before .before .before .before .before .before .ask .ensures .balances (c .before .before .before .enum-told .given .1) in
+    let arcs = c .before .before .before .before .before .before .before .before .before .before .before .before .before .before .before .before .before .args .arcs .now in
+    let supplies = c .before .before .before .before .before .before .before .before .before .before .before .before .before .before .before .before .before .args .supplies .now in
+    (on .desk, (c .before .before .before .before .before .before .before .before .before .before .before .before .before .before .before .before .before .pre .1 .0, (plan-of arcs supplies, (listed-whole arcs supplies 0, on .plan, on .ready))))
 
 same-length : tie.Need-same-length
 same-length c = search needs
@@ -33,26 +33,26 @@ same-length-2 c = search needs
 same-length-3 : tie.Need-same-length-3
 same-length-3 c = search needs
 
-same-length-4 : tie.Need-same-length-4
-same-length-4 c = search needs
-
 returns : tie.Need-returns
 returns c =
-    let f = c .before .before .before .before .before .before .before .before .first-flow .ensures in
-    let arcs = c .before .before .before .before .before .before .before .before .before .before .before .before .before .before .before .before .before .before .before .before .before .before .before .before .before .before .before .before .before .before .before .args .arcs .now in
-    let supplies = c .before .before .before .before .before .before .before .before .before .before .before .before .before .before .before .before .before .before .before .before .before .before .before .before .before .before .before .before .before .before .before .args .supplies .now in (
+    let f = c .before .before .before .before .before .before .first-flow .ensures in
+    let arcs = c .before .before .before .before .before .before .before .before .before .before .before .before .before .before .before .before .before .before .before .before .before .before .before .before .args .arcs .now in
+    let supplies = c .before .before .before .before .before .before .before .before .before .before .before .before .before .before .before .before .before .before .before .before .before .before .before .before .args .supplies .now in (
       record {
-        first = f .0 (plan-of arcs supplies) (listed-whole arcs supplies 0) (c .before .before .before .before .before .before .before .before .before .before .before .before .before .before .before .before .before .before .before .before .before .before .before .before .before .before .before .before .before .before .before .pre .0 .desk .plan) (c .before .before .before .before .before .before .before .before .before .before .before .before .before .before .before .before .before .before .before .before .before .ask .ensures .balances (c .before .before .before .before .before .before .before .before .before .before .before .before .before .enum-told .given .1) .ready);
+        first = f .0 (plan-of arcs supplies) (listed-whole arcs supplies 0) (c .before .before .before .before .before .before .before .before .before .before .before .before .before .before .before .before .before .before .before .before .before .before .before .before .pre .0 .plan) (c .before .before .before .before .before .before .before .before .before .before .before .before .before .before .before .before .ask .ensures .balances (c .before .before .before .before .before .before .before .before .before .before .enum-told .given .1) .ready);
         past = f .1;
       },
       refl,
     )
 
 mark-nodes-requires : tie.Need-mark-nodes-requires
-mark-nodes-requires c κs = (c .before .before .before .before .before .before .before .before .before .before .ask .ensures .desk .plan .nodes-fit, c .before .before .before .before .before .before .before .before .before .before .before .before .before .before .before .before .before .before .before .before .pre .1 .1)
+mark-nodes-requires c κs = (c .before .before .before .before .before .before .before .before .before .before .before .before .before .before .before .before .pre .0 .plan .nodes-fit, c .before .before .before .before .before .before .before .before .before .before .before .before .before .before .before .before .pre .1 .1)
 
 mark-arcs-requires : tie.Need-mark-arcs-requires
-mark-arcs-requires c κs = let desk = c .before .before .before .before .before .before .before .before .before .before .before .before .before .before .ask .ensures .desk in (desk .plan, c .before .before .before .before .before .before .before .before .before .before .before .before .before .before .before .before .before .before .before .before .before .before .before .before .pre .1 .0)
+mark-arcs-requires c κs = (c .before .before .before .before .before .before .before .before .before .before .before .before .before .before .before .before .before .before .before .before .pre .0 .plan, c .before .before .before .before .before .before .before .before .before .before .before .before .before .before .before .before .before .before .before .before .pre .1 .0)
+
+same-length-4 : tie.Need-same-length-4
+same-length-4 c = search needs
 
 same-length-5 : tie.Need-same-length-5
 same-length-5 c = search needs
@@ -63,16 +63,10 @@ same-length-6 c = search needs
 same-length-7 : tie.Need-same-length-7
 same-length-7 c = search needs
 
-same-length-8 : tie.Need-same-length-8
-same-length-8 c = search needs
-
-same-length-9 : tie.Need-same-length-9
-same-length-9 c = search needs
-
 returns-2 : tie.Need-returns-2
 returns-2 c =
     rw (toZ-ofZ {w = w64} {z = c .before .before .before .before .before .before .before .before .before .asked .given .0 .0} (record { sfits = c .before .before .before .before .before .before .before .before .known-told .given .0 .1 }))
-    (record { set = _; short = c .before .before .before .before .before .before .before .before .before .before .before .before .before .before .before .before .before .ask .ensures .lacks (c .before .before .before .before .before .before .before .before .before .asked .given .0 .0) (c .before .before .before .before .before .before .before .before .before .asked .given .1); node-marks = c .before .before .before .before .before .before .mark-nodes .ensures; arc-marks = c .before .before .mark-arcs .ensures })
+    (record { set = _; short = c .before .before .before .before .before .before .before .before .before .before .before .before .before .before .before .ask .ensures .lacks (c .before .before .before .before .before .before .before .before .before .asked .given .0 .0) (c .before .before .before .before .before .before .before .before .before .asked .given .1); node-marks = c .before .before .before .before .before .before .mark-nodes .ensures; arc-marks = c .before .before .mark-arcs .ensures })
 
 pub work-out-on-spec : {M : Type 1} → statement M
 work-out-on-spec =
@@ -85,13 +79,11 @@ work-out-on-spec =
     same-length
     same-length-2
     same-length-3
-    same-length-4
     returns
     mark-nodes-requires
     mark-arcs-requires
+    same-length-4
     same-length-5
     same-length-6
     same-length-7
-    same-length-8
-    same-length-9
     returns-2)

@@ -7,10 +7,10 @@ use Rattle.held.proofs.request.out_of_range.Statement.{statement}
 use Rattle.held.proofs.request.out_of_range.Tie as tie
 
 end-for-requires : tie.Need-end-for-requires
-end-for-requires c κs = c .before .before .before .before .before .before .before .pre
+end-for-requires c κs = c .before .before .before .before .before .pre
 
 end-for-requires-2 : tie.Need-end-for-requires-2
-end-for-requires-2 c κs = (c .before .before .before .before .before .before .before .before .before .end-for .ensures .1, c .before .before .before .before .before .before .before .before .before .before .before .before .before .before .before .before .before .pre .1)
+end-for-requires-2 c κs = (c .before .before .before .before .before .before .end-for .ensures .1, c .before .before .before .before .before .before .before .before .before .before .before .before .pre .1)
 
 outside-requires : tie.Need-outside-requires
 outside-requires c κs = search needs
@@ -21,19 +21,17 @@ same-length c = search needs
 same-length-2 : tie.Need-same-length-2
 same-length-2 c = search needs
 
-same-length-3 : tie.Need-same-length-3
-same-length-3 c = search needs
-
 returns : tie.Need-returns
 returns c =
-    let p = plan-of (c .before .before .before .before .before .before .before .before .before .before .before .before .before .before .before .before .before .before .before .before .before .before .before .before .before .args .arcs .now) (c .before .before .before .before .before .before .before .before .before .before .before .before .before .before .before .before .before .before .before .before .before .before .before .before .before .args .supplies .now) in
-    let k = c .before .before .before .before .before .before .before .before .before .before .before .before .before .before .before .before .before .before .before .before .before .before .before .before .before .args .k in
-    let count = c .before .before .before .before .before .before .before .before .before .before .before .before .before .before .before .before .before .before .before .before .before .before .before .before .before .args .count in
+    let a = c .before .before .before .before .before .before .before .before .before .before .before .before .before .before .before .before .before .before .args in
+    let p = plan-of (a .arcs .now) (a .supplies .now) in
+    let low = c .before .before .before .before .before .before .before .before .before .before .before .before .end-for .ensures .0 in
+    let high = c .before .before .before .before .before .end-for2 .ensures .0 in
     let is = c .outside .ensures in (
-      λ e. count-outside {p = p} {k = k} (c .before .before .before .before .before .before .before .before .before .before .before .before .before .before .before .before .before .end-for .ensures .0) (c .before .before .before .before .before .before .before .end-for2 .ensures .0) count (sym is ∙ e),
+      λ e. count-outside {p = p} {k = a .k} low high (a .count) (sym is ∙ e),
       (
-        λ e. count-possible {p = p} {k = k} (c .before .before .before .before .before .before .before .before .before .before .before .before .before .before .before .before .before .end-for .ensures .0) (c .before .before .before .before .before .before .before .end-for2 .ensures .0) count (c .before .before .before .before .before .before .before .before .before .before .before .before .before .before .before .before .before .before .before .before .before .before .before .before .before .pre .0 .desk .plan) (c .before .before .before .before .before .before .before .before .before .before .before .before .before .before .before .before .before .before .before .before .before .before .before .before .before .pre .1) (sym is ∙ e),
-        c .before .before .before .before .before .before .before .end-for2 .ensures .1,
+        λ e. count-possible {p = p} {k = a .k} low high (a .count) (c .before .before .before .before .before .before .before .before .before .before .before .before .before .before .before .before .before .before .pre .0 .plan) (c .before .before .before .before .before .before .before .before .before .before .before .before .before .before .before .before .before .before .pre .1) (sym is ∙ e),
+        c .before .before .before .before .before .end-for2 .ensures .1,
       ),
     )
 
@@ -46,5 +44,4 @@ out-of-range-spec =
     outside-requires
     same-length
     same-length-2
-    same-length-3
     returns)

@@ -10,11 +10,8 @@ slice-aggregate-work-out-on c = search needs
 slice-aggregate-work-out-on-2 : tie.Need-slice-aggregate-work-out-on-2
 slice-aggregate-work-out-on-2 c = search needs
 
-slice-aggregate-work-out-on-3 : tie.Need-slice-aggregate-work-out-on-3
-slice-aggregate-work-out-on-3 c = search needs
-
 work-out-on-requires : tie.Need-work-out-on-requires
-work-out-on-requires c κs = (new-desk (c .before .before .before .before .before .before .before .before .pre .0), c .before .before .before .before .before .before .before .before .pre .1)
+work-out-on-requires c κs = (new-desk (c .before .before .before .before .before .before .before .pre .0), c .before .before .before .before .before .before .before .pre .1)
 
 same-length : tie.Need-same-length
 same-length c = search needs
@@ -31,7 +28,6 @@ work-out-spec =
     (tie.spec
     slice-aggregate-work-out-on
     slice-aggregate-work-out-on-2
-    slice-aggregate-work-out-on-3
     work-out-on-requires
     same-length
     same-length-2

@@ -1,94 +1,113 @@
--- The loop writes one end a turn: below k the entries are the arcs' ends, and the plan stands ready.
+-- Below k the entries are the arcs' ends. Each step leaves the plan ready and arc k lacking less, until its end is known and written.
 use Prim.Native.Nat.{_-_, _/_, _≤_}
-use mathlib.Core.Path.{refl, _∙_}
+use mathlib.Core.Path.{_≡_, refl, ap, _∙_}
 use lib.ListN.{length}
 use native.Mathlib.Omega.{arith}
-use Rattle.rooms.specs.Room.{SameLengths}
 use Rattle.plan.specs.Limits.{arc-entries}
 use Rattle.plan.specs.Plan.{plan-of}
 use Rattle.plan.specs.Reason.{NarrowedEnd}
 use Rattle.stand.specs.Desk.{ReadyDesk}
+use Rattle.one_arc.specs.Standing.{lacking}
 use Rattle.lists.specs.Written.{EntriesHold}
 use Rattle.lists.proofs.Entries.{entries-none, entry-holds}
 use borrow.Author.Needs.{needs}
 use Rattle.narrow.proofs.request.write_ends.Statement.{statement}
 use Rattle.narrow.proofs.request.write_ends.Tie as tie
 
-abbrev Inv-loop : tie.InvT-loop
-Inv-loop arcs supplies upper ends₀ rooms₀ over₀ under₀ count k₀ ends rooms over under k =
+abbrev Inv-lanes : tie.InvT-lanes
+Inv-lanes arcs supplies upper ends₀ rooms₀ ways₀ count k₀ ends rooms ways k =
     (k ≤ length arcs / arc-entries) × EntriesHold 0 (λ i x. NarrowedEnd (plan-of arcs supplies) i upper x) k ends₀ ends
-    × SameLengths rooms₀ over₀ under₀ rooms over under
-    × ReadyDesk arcs supplies rooms over under
+    × (length rooms ≡ length rooms₀) × (length ways ≡ length ways₀) × ReadyDesk arcs supplies rooms ways
 
-abbrev μ-loop : tie.MeasureT-loop
-μ-loop arcs supplies upper ends₀ rooms₀ over₀ under₀ count k₀ ends rooms over under k = length arcs / arc-entries - k
+abbrev μ-lanes : tie.MeasureT-lanes
+μ-lanes arcs supplies upper ends₀ rooms₀ ways₀ count k₀ ends rooms ways k = length arcs / arc-entries - k
 
-loop-holds : tie.Need-loop-holds Inv-loop μ-loop
-loop-holds c = (
-  omega arith,
-  entries-none,
-  record { first-length = refl; second-length = refl; third-length = refl },
-  c .before .before .before .before .before .pre .0,
-)
+abbrev Inv-steps : tie.InvT-steps
+Inv-steps arcs supplies upper ends₀ rooms₀ ways₀ count k₀ ends rooms ways k =
+    (k ≡ k₀) × (ends ≡ ends₀) × (length rooms ≡ length rooms₀) × (length ways ≡ length ways₀) × ReadyDesk arcs supplies rooms ways
 
-end-for-requires : tie.Need-end-for-requires Inv-loop μ-loop
-end-for-requires c κs = (c .before .before .before .before .loop .inv .3, c .before .before .before .loop-test .taken)
+abbrev μ-steps : tie.MeasureT-steps
+μ-steps arcs supplies upper ends₀ rooms₀ ways₀ count k₀ ends rooms ways k = lacking (plan-of arcs supplies) k upper rooms
 
-mul-ends : tie.Need-mul-ends Inv-loop μ-loop
+lanes-holds : tie.Need-lanes-holds Inv-steps μ-steps Inv-lanes μ-lanes
+lanes-holds c = (omega arith, entries-none, refl, refl, c .before .before .before .before .pre .0)
+
+steps-holds : tie.Need-steps-holds Inv-steps μ-steps Inv-lanes μ-lanes
+steps-holds c = (refl, refl, refl, refl, c .before .lanes .inv .4)
+
+step-for-requires : tie.Need-step-for-requires Inv-steps μ-steps Inv-lanes μ-lanes
+step-for-requires c κs = let inv = c .before .before .steps .inv in (inv .4, omega (arith, inv .0, c .before .before .before .lanes-test .taken))
+
+mul-ends : tie.Need-mul-ends Inv-steps μ-steps Inv-lanes μ-lanes
 mul-ends c = search needs
 
-slice-write-ends : tie.Need-slice-write-ends Inv-loop μ-loop
-slice-write-ends c = omega (arith, c .before .before .before .before .before .before .before .before .before .before .before .loop .inv .1 .same-length, c .before .before .before .before .before .before .before .before .before .before .before .before .before .before .before .before .before .pre .1)
+slice-write-ends : tie.Need-slice-write-ends Inv-steps μ-steps Inv-lanes μ-lanes
+slice-write-ends c =
+    let inv = c .before .before .before .before .before .before .before .before .before .before .lanes .inv in
+    let s = c .before .before .before .before .before .before .before .before .steps .inv in
+    omega (arith, s .0, ap length (s .1), inv .1 .same-length, c .before .before .before .before .before .before .before .before .before .lanes-test .taken, c .before .before .before .before .before .before .before .before .before .before .before .before .before .before .before .pre .1)
 
-add-k : tie.Need-add-k Inv-loop μ-loop
+add-k : tie.Need-add-k Inv-steps μ-steps Inv-lanes μ-lanes
 add-k c = search needs
 
-loop-less : tie.Need-loop-less Inv-loop μ-loop
-loop-less c = omega arith
+lanes-less : tie.Need-lanes-less Inv-steps μ-steps Inv-lanes μ-lanes
+lanes-less c = omega (arith, c .before .before .before .before .before .before .before .before .steps .inv .0, c .before .before .before .before .before .before .before .before .before .lanes-test .taken)
 
-loop-again : tie.Need-loop-again Inv-loop μ-loop
-loop-again c =
-    let pre = c .before .before .before .before .before .before .before .before .before .before .before .before .before .before .before .before .before .pre in
-    let inv = c .before .before .before .before .before .before .before .before .before .before .before .loop .inv in
-    let k = c .before .before .before .before .before .before .end-for .kept in (
-      omega arith,
-      entry-holds (c .before .before .before .before .before .before .end-for .result) (omega (arith, inv .1 .same-length, pre .1)) (c .before .before .before .before .before .before .end-for .ensures .0) (inv .1),
-      record { first-length = k .1 .1 .1 .1 .0 ∙ inv .2 .first-length; second-length = k .1 .1 .1 .1 .1 .0 ∙ inv .2 .second-length; third-length = k .1 .1 .1 .1 .1 .1 .0 ∙ inv .2 .third-length },
-      c .before .before .before .before .before .before .end-for .ensures .1,
+lanes-again : tie.Need-lanes-again Inv-steps μ-steps Inv-lanes μ-lanes
+lanes-again c =
+    let inv = c .before .before .before .before .before .before .before .before .before .before .lanes .inv in
+    let s = c .before .before .before .before .before .before .before .before .steps .inv in
+    let k = c .before .before .before .before .before .step-for .kept in (
+      omega (arith, s .0, c .before .before .before .before .before .before .before .before .before .lanes-test .taken),
+      entry-holds {list = c .before .before .before .before .before .before .before .before .steps .ends} (c .before .before .before .before .before .step-for .result .end) (omega (arith, s .0, ap length (s .1), inv .1 .same-length, c .before .before .before .before .before .before .before .before .before .lanes-test .taken, c .before .before .before .before .before .before .before .before .before .before .before .before .before .before .before .pre .1))
+          (c .before .before .before .before .before .step-for .ensures .0 (c .if1 .taken)) (rw (s .0, s .1) (inv .1)),
+      k .1 .1 .1 .1 .0 ∙ s .2 ∙ inv .2,
+      k .1 .1 .1 .1 .1 .0 ∙ s .3 ∙ inv .3,
+      c .before .before .before .before .before .step-for .ensures .1 .1,
     )
 
-same-length : tie.Need-same-length Inv-loop μ-loop
-same-length c = c .before .loop .inv .1 .same-length
+steps-less : tie.Need-steps-less Inv-steps μ-steps Inv-lanes μ-lanes
+steps-less c = c .before .before .before .before .before .step-for .ensures .1 .0 (c .if1 .left)
 
-same-length-2 : tie.Need-same-length-2 Inv-loop μ-loop
-same-length-2 c = c .before .loop .inv .2 .first-length
+steps-again : tie.Need-steps-again Inv-steps μ-steps Inv-lanes μ-lanes
+steps-again c =
+    let inv = c .before .before .before .before .before .before .before .before .steps .inv in
+    let k = c .before .before .before .before .before .step-for .kept in
+    (inv .0, inv .1, k .1 .1 .1 .1 .0 ∙ inv .2, k .1 .1 .1 .1 .1 .0 ∙ inv .3, c .before .before .before .before .before .step-for .ensures .1 .1)
 
-same-length-3 : tie.Need-same-length-3 Inv-loop μ-loop
-same-length-3 c = c .before .loop .inv .2 .second-length
+same-length : tie.Need-same-length Inv-steps μ-steps Inv-lanes μ-lanes
+same-length c = c .before .lanes .inv .1 .same-length
 
-same-length-4 : tie.Need-same-length-4 Inv-loop μ-loop
-same-length-4 c = c .before .loop .inv .2 .third-length
+same-length-2 : tie.Need-same-length-2 Inv-steps μ-steps Inv-lanes μ-lanes
+same-length-2 c = c .before .lanes .inv .2
 
-returns : tie.Need-returns Inv-loop μ-loop
+same-length-3 : tie.Need-same-length-3 Inv-steps μ-steps Inv-lanes μ-lanes
+same-length-3 c = c .before .lanes .inv .3
+
+returns : tie.Need-returns Inv-steps μ-steps Inv-lanes μ-lanes
 returns c =
-    let inv = c .before .loop .inv in
-    (λ k l. inv .1 .there k (omega arith), (λ i l. inv .1 .past i (omega arith), inv .3))
+    let inv = c .before .lanes .inv in
+    (λ k l. inv .1 .there k (omega arith), (λ i l. inv .1 .past i (omega arith), inv .4))
 
 pub write-ends-spec : {M : Type 1} → statement M
 write-ends-spec =
     tie.close
     (tie.spec
-    Inv-loop
-    μ-loop
-    loop-holds
-    end-for-requires
+    Inv-steps
+    μ-steps
+    Inv-lanes
+    μ-lanes
+    lanes-holds
+    steps-holds
+    step-for-requires
     mul-ends
     slice-write-ends
     add-k
-    loop-less
-    loop-again
+    lanes-less
+    lanes-again
+    steps-less
+    steps-again
     same-length
     same-length-2
     same-length-3
-    same-length-4
     returns)

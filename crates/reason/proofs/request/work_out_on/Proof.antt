@@ -5,7 +5,7 @@ use Rattle.reason.proofs.request.work_out_on.Statement.{statement}
 use Rattle.reason.proofs.request.work_out_on.Tie as tie
 
 ask-requires : tie.Need-ask-requires
-ask-requires c κs = c .before .before .before .before .before .before .before .before .before .pre .0
+ask-requires c κs = c .before .before .before .before .before .before .before .pre .0
 
 enum-told : tie.Need-enum-told
 enum-told c = search needs
@@ -22,14 +22,14 @@ same-length c = search needs
 same-length-2 : tie.Need-same-length-2
 same-length-2 c = search needs
 
-same-length-3 : tie.Need-same-length-3
-same-length-3 c = search needs
-
 returns : tie.Need-returns
-returns c = rw (c .to .ensures, c .before .enum-told2 .given .1) ((_, c .before .before .before .before .before .before .before .before .before .ask .ensures .lacks _ (c .before .enum-told2 .given .1)), refl, refl)
+returns c = rw (c .to .ensures, c .before .enum-told2 .given .1) ((_, c .before .before .before .before .before .before .before .ask .ensures .lacks _ (c .before .enum-told2 .given .1)), refl, refl)
 
 explain-requires : tie.Need-explain-requires
-explain-requires c κs = (c .before .before .before .before .before .before .before .before .before .before .before .before .before .ask .ensures .balances (c .before .before .before .before .before .enum-told .given .1), c .before .before .before .before .before .before .before .before .before .before .before .before .before .before .before .before .before .before .before .before .before .before .before .pre .1)
+explain-requires c κs = (c .before .before .before .before .before .before .before .before .before .before .ask .ensures .balances (c .before .before .before .before .enum-told .given .1), c .before .before .before .before .before .before .before .before .before .before .before .before .before .before .before .before .before .before .pre .1)
+
+same-length-3 : tie.Need-same-length-3
+same-length-3 c = search needs
 
 same-length-4 : tie.Need-same-length-4
 same-length-4 c = search needs
@@ -39,12 +39,6 @@ same-length-5 c = search needs
 
 same-length-6 : tie.Need-same-length-6
 same-length-6 c = search needs
-
-same-length-7 : tie.Need-same-length-7
-same-length-7 c = search needs
-
-same-length-8 : tie.Need-same-length-8
-same-length-8 c = search needs
 
 returns-2 : tie.Need-returns-2
 returns-2 c = search needs
@@ -59,12 +53,10 @@ work-out-on-spec =
     to-requires
     same-length
     same-length-2
-    same-length-3
     returns
     explain-requires
+    same-length-3
     same-length-4
     same-length-5
     same-length-6
-    same-length-7
-    same-length-8
     returns-2)

@@ -1,4 +1,5 @@
--- The loop's invariant: the first k arcs are entered, and the lists are as long as they were. With all entered, the plan stands.
+-- The loop's invariant: the first k arcs are entered, the words show the rooms, and the lists are as long as they were. With all
+-- arcs entered, the plan stands.
 use Prim.Native.Nat.{_-_, _/_, _≤_}
 use mathlib.Core.Path.{_≡_, refl, _∙_}
 use mathlib.Core.Bool.{false}
@@ -6,62 +7,51 @@ use native.Mathlib.Omega.{arith}
 use native.Mathlib.Numerals.{add-one}
 use lib.ListN.{length}
 use borrow.Author.Needs.{needs}
-use Rattle.rooms.specs.Room.{at, seen, Lent, SameLengths}
-use Rattle.engine.proofs.Sweeping.{lent-still}
+use Rattle.rooms.specs.Room.{at, seen}
+use Rattle.ways.specs.Ways.{Ways}
 use Rattle.plan.specs.Limits.{arc-entries}
 use Rattle.plan.specs.Plan.{plan-of}
-use Rattle.stand.proofs.Building.{Entered, entered-none, entered-more, arc-ends, arc-fits, entered-represents, entered-small}
+use Rattle.stand.proofs.Building.{Entered, empty-ways, entered-none, entered-more, arc-ends, arc-fits, entered-represents, entered-fitting}
 use Rattle.stand.proofs.build.build.Statement.{statement}
 use Rattle.stand.proofs.build.build.Tie as tie
 
 abbrev Inv-loop : tie.InvT-loop
-Inv-loop arcs supplies rooms₀ over₀ under₀ count k₀ rooms over under k =
-    (k ≤ length arcs / arc-entries) × SameLengths rooms₀ over₀ under₀ rooms over under
-    × Entered (plan-of arcs supplies) k (seen rooms false) (at over) (at under)
+Inv-loop arcs supplies rooms₀ ways₀ over₀ under₀ count k₀ rooms ways over under k =
+    (k ≤ length arcs / arc-entries)
+    × (length rooms ≡ length rooms₀) × (length ways ≡ length ways₀) × (length over ≡ length over₀) × (length under ≡ length under₀)
+    × Ways rooms ways × Entered (plan-of arcs supplies) k (seen rooms false) (at over) (at under)
 
 abbrev μ-loop : tie.MeasureT-loop
-μ-loop arcs supplies rooms₀ over₀ under₀ count k₀ rooms over under k = length arcs / arc-entries - k
-
-abbrev start : tie.At-loop Inv-loop μ-loop → tie.Start Inv-loop μ-loop
-start c = c .before .before .before .before .before .before .before .before .before .before .before .before
-
--- the lent lists are as long as they were
-same : (c : tie.At-loop Inv-loop μ-loop)
-    → SameLengths (start c .args .rooms .now) (start c .args .over .now) (start c .args .under .now) (c .loop .rooms) (c .loop .over) (c .loop .under)
-same c =
-    let inv = c .loop .inv in
-    let supplies-entered = c .before .before .before .before .before .enter-supplies in
-    record {
-      first-length = inv .1 .first-length;
-      second-length = inv .1 .second-length ∙ supplies-entered .kept .1 .0;
-      third-length = inv .1 .third-length ∙ supplies-entered .kept .1 .1 .0;
-    }
-
-lent : (c : tie.At-loop Inv-loop μ-loop) → Lent (length (start c .args .supplies .now)) (c .loop .rooms) (c .loop .over) (c .loop .under)
-lent c = lent-still (same c) (start c .pre .1 .0)
+μ-loop arcs supplies rooms₀ ways₀ over₀ under₀ count k₀ rooms ways over under k = length arcs / arc-entries - k
 
 enter-supplies-requires : tie.Need-enter-supplies-requires Inv-loop μ-loop
-enter-supplies-requires c κs = search needs
+enter-supplies-requires c κs =
+    let pre = c .before .before .before .before .before .before .before .pre in
+    (pre .1, pre .0 .plan .supply-fits)
 
 loop-holds : tie.Need-loop-holds Inv-loop μ-loop
 loop-holds c =
-    let supplies-entered = c .before .before .before .before .enter-supplies .ensures in
-    let empty = c .before .before .before .before .before .before .before .before .before .before .before .pre .1 .1 in (
-      omega arith,
-      record { first-length = refl; second-length = refl; third-length = refl },
-      entered-none (λ i. empty i .0) (supplies-entered .0) (supplies-entered .1),
-    )
+    let desk = c .before .before .before .before .before .before .before .before .before .before .before .before .pre .0 in
+    let written = c .before .before .before .before .enter-supplies .ensures in
+    (omega arith, refl, refl, refl, refl, empty-ways desk, entered-none desk (written .0) (written .1))
 
 arc-at-requires : tie.Need-arc-at-requires Inv-loop μ-loop
 arc-at-requires c κs = search needs
 
 enter-arc-requires : tie.Need-enter-arc-requires Inv-loop μ-loop
 enter-arc-requires c κs =
-    let head = c .before .before .before .before .before in
-    let w = start head .pre .0 in
-    let l = c .before .before .before .before .loop-test .taken in
-    rw (c .before .before .before .arc-at .ensures)
-    (lent head .rooms-whole, (arc-ends w l (lent head), (w .uncrossed _ l, arc-fits w l (head .loop .inv .2))))
+    let pre = c .before .before .before .before .before .before .before .before .before .before .before .before .before .before .before .before .before .before .before .pre in
+    let w = pre .0 .plan in
+    let l = c .before .before .before .before .before .loop-test .taken in
+    let inv = c .before .before .before .before .before .before .loop .inv in
+    let kept = c .before .before .before .before .before .before .before .before .before .before .before .enter-supplies .kept .1 in
+    rw (c .before .before .before .before .arc-at .ensures) (
+      inv .5,
+      (
+        arc-ends w l (omega (arith, inv .3, kept .0, pre .1 .0)) (omega (arith, inv .4, kept .1 .0, pre .1 .1)),
+        (w .uncrossed _ l, arc-fits w l (inv .6)),
+      ),
+    )
 
 add-k : tie.Need-add-k Inv-loop μ-loop
 add-k c = search needs
@@ -71,38 +61,39 @@ loop-less c = omega arith
 
 loop-again : tie.Need-loop-again Inv-loop μ-loop
 loop-again c =
-    let head = c .before .before .before .before .before .before .before .before .before .before .before .before in
-    let inv = head .loop .inv in
-    let arc = c .before .before .before .before .before .before .before .before .before .before .arc-at .ensures in
-    let arc-entered = c .before .before .before .before .before .before .enter-arc in
-    let more = arc-entered .ensures in
+    let inv = c .before .before .before .before .before .before .before .before .before .before .before .before .before .before .before .loop .inv in
+    let arc = c .before .before .before .before .before .before .before .before .before .before .before .before .before .arc-at .ensures in
+    let kept = c .before .before .before .before .before .before .before .before .enter-arc .kept .1 in
+    let more = c .before .before .before .before .before .before .before .before .enter-arc .ensures in
     rw add-one (
       omega arith,
-      record {
-        first-length = arc-entered .kept .1 .0 ∙ inv .1 .first-length;
-        second-length = arc-entered .kept .1 .1 .0 ∙ inv .1 .second-length;
-        third-length = arc-entered .kept .1 .1 .1 .0 ∙ inv .1 .third-length;
-      },
-      entered-more (start head .pre .0) (c .before .before .before .before .before .before .before .before .before .before .before .loop-test .taken) (inv .2)
-          (rw arc at (more .0)) (rw arc at (more .1 .0)) (rw arc at (more .1 .1)),
+      kept .0 ∙ inv .1,
+      kept .1 .0 ∙ inv .2,
+      kept .1 .1 .0 ∙ inv .3,
+      kept .1 .1 .1 .0 ∙ inv .4,
+      more .0,
+      entered-more (inv .6) (rw arc at (more .1 .0)) (rw arc at (more .1 .1 .0)) (rw arc at (more .1 .1 .1)),
     )
 
 same-length : tie.Need-same-length Inv-loop μ-loop
-same-length c = same (c .before) .first-length
+same-length c = c .before .loop .inv .1
 
 same-length-2 : tie.Need-same-length-2 Inv-loop μ-loop
-same-length-2 c = same (c .before) .second-length
+same-length-2 c = c .before .loop .inv .2
 
 same-length-3 : tie.Need-same-length-3 Inv-loop μ-loop
-same-length-3 c = same (c .before) .third-length
+same-length-3 c = c .before .loop .inv .3 ∙ c .before .before .before .before .before .before .enter-supplies .kept .1 .0
+
+same-length-4 : tie.Need-same-length-4 Inv-loop μ-loop
+same-length-4 c = c .before .loop .inv .4 ∙ c .before .before .before .before .before .before .enter-supplies .kept .1 .1 .0
 
 returns : tie.Need-returns Inv-loop μ-loop
 returns c =
-    let head = c .before in
-    let w = start head .pre .0 in
-    let full : head .loop .k ≡ length (start head .args .arcs .now) / arc-entries = omega arith in
-    let all = rw full at (head .loop .inv .2) in
-    (entered-represents w all, entered-small w all)
+    let w = c .before .before .before .before .before .before .before .before .before .before .before .before .before .before .pre .0 .plan in
+    let last = c .before .loop in
+    let full : last .k ≡ length (c .before .before .before .before .before .before .before .before .before .before .before .before .before .before .args .arcs .now) / arc-entries = omega arith in
+    let all = rw full at (last .inv .6) in
+    (record { ways-show = last .inv .5; fitting = entered-fitting w all }, entered-represents w all)
 
 pub build-spec : {M : Type 1} → statement M
 build-spec =
@@ -120,4 +111,5 @@ build-spec =
     same-length
     same-length-2
     same-length-3
+    same-length-4
     returns)
