@@ -2,6 +2,7 @@
 use flow::Answer;
 use network::check;
 use network::too_short;
+use one_arc::ends::own_end;
 use one_arc::ends::step_for;
 use plan::Arc;
 use plan::Plan;
@@ -21,7 +22,7 @@ ghost use Rattle.stand.specs.Desk.{EmptyDesk, ReadyDesk};
 ghost use Rattle.narrow.specs.Answer.{Told, NarrowAnswers};
 
 // Writes the smallest count of each arc, or with `upper` the largest. The flow that was found is carried
-// on from arc to arc, one step after the other; an arc is left as soon as its end is known.
+// on from arc to arc, one step after the other; an arc is left as soon as its end is known to stand.
 fn write_ends(
     arcs: &[u32],
     supplies: &[i32],
@@ -38,13 +39,17 @@ fn write_ends(
 {
     let count = arcs.len() / Arc::ENTRIES;
     'lanes: for k in 0..count {
-        'steps: loop {
+        ends[k] = own_end(arcs, k, upper);
+        let end = 'steps: loop {
             let step = step_for(arcs, supplies, k, upper, rooms, ways);
-            if step.known {
-                ends[k] = step.end;
+            if step.stands {
                 continue 'lanes;
             }
-        }
+            if step.moved {
+                break 'steps step.end;
+            }
+        };
+        ends[k] = end;
     }
 }
 

@@ -1,6 +1,6 @@
 -- One arc of a plan that stands ready, said in the numbers that the code has: n nodes, the arc from a to b, its range low..high.
 use Prim.Native.Nat.{ℕ, _+_, _-_, _≤_, _<_}
-use mathlib.Core.Path.{_≡_, refl, sym, _∙_}
+use mathlib.Core.Path.{_≡_, refl, sym, subst, _∙_}
 use mathlib.Core.Bool.{Bool, true, false, cond, true≢false}
 use mathlib.Core.List.{List}
 use mathlib.Core.Logic.{by-cases}
@@ -40,6 +40,11 @@ module _ {n : ℕ} {room : ℕ → ℕ → ℕ} {a b width : ℕ} {S : ℕ → B
     there-stuck less t =
         let is : free ≡ room a b = fits (λ e. omega (arith, loop e)) .2 less in
         rw is (stuck-free la lb (omega arith) t)
+
+-- where all of a range is free, its end is its own
+pub whole-end : {low high : ℕ} (upper : Bool) → low ≤ high → cond upper (low + (high - low)) (high - (high - low)) ≡ cond upper high low
+whole-end false fits = omega arith
+whole-end true fits = omega arith
 
 -- ---- an arc
 
@@ -126,6 +131,10 @@ module _ {p : Plan} {k n a b low high : ℕ} (rooms : List ℕ) (st : Standing p
     -- the narrowed end, from the room that is free; and where not all is free, the reason
     pub facing-end : NarrowedEnd p k upper (cond upper (low + free) (high - free))
     facing-end = rw (st .low-is, st .high-is) at (free-end (st .well-formed) rooms (st .ready) k (st .arc) upper own)
+
+    -- where all of the width is free, the end is the arc's own
+    pub facing-stands : free ≡ high - low → NarrowedEnd p k upper (cond upper (p .high k) (p .low k))
+    facing-stands all = rw (st .low-is, st .high-is) (subst (λ x. NarrowedEnd p k upper x) (rw all (whole-end upper (standing-range st))) facing-end)
 
     pub facing-reason : free < high - low → EndReason p k upper (cond upper (low + free) (high - free)) S
     facing-reason less = rw (st .low-is, st .high-is) at

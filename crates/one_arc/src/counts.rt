@@ -14,7 +14,7 @@ ghost use Rattle.stand.specs.State.{Ready};
 ghost use Rattle.one_arc.specs.Standing.{Standing, Possible};
 
 // The one of two numbers, or with `upper` the other.
-fn either(upper: bool, low: u32, high: u32) -> u32
+pub fn either(upper: bool, low: u32, high: u32) -> u32
     ensures { λ r. ⌜ r ≡ cond upper high low ⌝ }
 {
     if upper {

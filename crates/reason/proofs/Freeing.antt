@@ -1,7 +1,7 @@
 -- What is free of an arc's width says what there is to say of an end: where it lies, and which set moved it there.
-use Prim.Native.Nat.{ℕ, _+_, _-_, _≤_, _<_}
+use Prim.Native.Nat.{ℕ, _+_, _-_, _<_}
 use mathlib.Core.Path.{_≡_, subst}
-use mathlib.Core.Bool.{Bool, true, false, cond}
+use mathlib.Core.Bool.{Bool, false, cond}
 use mathlib.Core.List.{List}
 use native.Mathlib.Omega.{arith}
 use Rattle.numbers.specs.Sums.{only}
@@ -11,14 +11,9 @@ use Rattle.plan.specs.Plan.{Plan, Set, WellFormed}
 use Rattle.plan.specs.Reason.{own-end, NarrowedEnd, end-marks}
 use Rattle.stand.specs.State.{Ready}
 use Rattle.lists.specs.Written.{Written}
-use Rattle.one_arc.proofs.OneArc.{own-standing, standing-loop, facing-end, facing-reason}
+use Rattle.one_arc.proofs.OneArc.{whole-end, own-standing, standing-loop, facing-end, facing-reason}
 use Rattle.reason.specs.Answer.{Cited}
 use Rattle.reason.specs.Freed.{Freed}
-
--- where all of a range is free, its end is its own
-all-free : {low high : ℕ} → low ≤ high → (upper : Bool) → cond upper (low + (high - low)) (high - (high - low)) ≡ cond upper high low
-all-free fits false = omega arith
-all-free fits true = omega arith
 
 module _ {p : Plan} {k : ℕ} (w : WellFormed p) (l : k < p .arcs) where
   -- all of a self-loop's width is free
@@ -26,7 +21,7 @@ module _ {p : Plan} {k : ℕ} (w : WellFormed p) (l : k < p .arcs) where
       → Freed p k upper (p .high k - p .low k) S
   loop-freed y loop upper = record {
     fits = omega arith;
-    end = rw (all-free (w .uncrossed k l) upper) (standing-loop (own-standing w l y) upper loop);
+    end = rw (whole-end upper (w .uncrossed k l)) (standing-loop (own-standing w l y) upper loop);
     reason = λ less. absurd (omega arith);
   }
 
@@ -40,7 +35,7 @@ module _ {p : Plan} {k : ℕ} (w : WellFormed p) (l : k < p .arcs) where
 
   module _ {upper : Bool} {free : ℕ} {S : Set} (f : Freed p k upper free S) where
     pub freed-stands : free ≡ p .high k - p .low k → NarrowedEnd p k upper (own-end p k upper)
-    freed-stands all = subst (λ x. NarrowedEnd p k upper x) (rw all (all-free (w .uncrossed k l) upper)) (f .end)
+    freed-stands all = subst (λ x. NarrowedEnd p k upper x) (rw all (whole-end upper (w .uncrossed k l))) (f .end)
 
     pub freed-cited : {arcs nodes arcs′ nodes′ : List ℕ} → (free ≡ p .high k - p .low k → ⊥) → Written (λ v. only (S v) 1) (p .nodes) nodes nodes′
         → Written (end-marks p k upper S) (p .arcs) arcs arcs′

@@ -1,14 +1,14 @@
--- Where nothing lacks, or nothing can be brought round, the end lies where the room ends; where some is brought round, the room is wider.
-use mathlib.Core.Path.{_≡_, ap, _∙_}
+-- Where nothing lacks the end stands; else some is brought round and the room is wider, or the end lies where the room ends.
+use mathlib.Core.Path.{_≡_}
 use mathlib.Core.Bool.{false, true≢false, false≢true}
-use mathlib.Core.Logic.{by-cases, ⊎-elim}
 use native.Mathlib.Omega.{arith}
-use native.Mathlib.Decide.{ℕ-discrete}
+use borrow.Author.Tests.{not-true, not-false}
+use Prim.Native.Nat.{_-_, _<_}
 use lib.ListN.{length}
 use Rattle.rooms.specs.Room.{seen}
 use Rattle.plan.specs.Plan.{plan-of}
 use Rattle.one_arc.specs.Standing.{Standing}
-use Rattle.one_arc.proofs.OneArc.{there-whole, there-stuck, standing-from, standing-to, standing-range, own-standing, facing-wide, facing-ready, facing-less, facing-end}
+use Rattle.one_arc.proofs.OneArc.{there-whole, there-stuck, standing-from, standing-to, standing-range, own-standing, facing-wide, facing-ready, facing-less, facing-end, facing-stands}
 use borrow.Author.Needs.{needs}
 use Rattle.one_arc.proofs.ends.step_for.Statement.{statement}
 use Rattle.one_arc.proofs.ends.step_for.Tie as tie
@@ -21,6 +21,15 @@ standing c =
     let a = c .before .before .before .before .args in
     let pre = c .before .before .before .before .pre in
     rw (c .arc-at .ensures) (own-standing {p = plan-of (a .arcs .now) (a .supplies .now)} {k = a .k} (pre .0 .plan) (pre .1) (pre .0 .ready))
+
+-- the arc is no self-loop, and its room is less than its width
+short : (c : tie.Else1)
+    → (c .before .before .before .before .before .before .arc-at .result .to ≡ c .before .before .before .before .before .before .arc-at .result .from → ⊥)
+    × (c .before .free-now .result < c .before .before .before .before .before .before .arc-at .result .high - c .before .before .before .before .before .before .arc-at .result .low)
+short c =
+    let free = c .before .free-now .ensures in
+    let ne : c .before .before .before .before .before .before .arc-at .result .to ≡ c .before .before .before .before .before .before .arc-at .result .from → ⊥ = λ e. c .if1 .left (free .0 e) in
+    (ne, omega (arith, free .1 ne .0, c .if1 .left))
 
 arc-at-requires : tie.Need-arc-at-requires
 arc-at-requires c κs = search needs
@@ -40,71 +49,57 @@ free-now-requires c κs =
     let st = standing (c .before .before .before .before) in
     (desk .ways-show .rooms-whole, omega (arith, standing-from st, desk .fitting .few), omega (arith, standing-to st, desk .fitting .few))
 
+same-length : tie.Need-same-length
+same-length c = search needs
+
+returns : tie.Need-returns
+returns c =
+    let a = c .before .before .before .before .before .before .before .before .before .before .args in
+    let free = c .before .free-now .ensures in
+    let st = standing (c .before .before .before .before .before .before) in (
+      λ e. facing-stands (a .rooms .now) st (a .upper) {S = λ v. false}
+          (there-whole (standing-from st) (standing-to st) (free .0) (free .1) (omega (arith, c .if1 .taken))) (c .if1 .taken),
+      (λ e. absurd (false≢true e), (λ e. absurd (true≢false e), c .before .before .before .before .before .before .before .before .before .before .pre .0)),
+    )
+
 sub-go-round : tie.Need-sub-go-round
-sub-go-round c = search needs
+sub-go-round c = omega (arith, short (c .before .before))
 
 go-round-requires : tie.Need-go-round-requires
 go-round-requires c κs =
     let a = c .before .before .before .before .before .before .before .before .before .before .before .before .args in
-    let arc = c .before .before .before .before .before .before .before .before .arc-at .result in
-    let free = c .before .before .before .free-now .ensures in
-    let less = c .before .before .if1 .taken in
     let st = standing (c .before .before .before .before .before .before .before .before) in
-    let ne : arc .to ≡ arc .from → ⊥ = λ e. omega (arith, free .0 e, less) in
-    (c .before .before .before .before .before .before .before .before .before .before .before .before .pre .0 .desk, ((standing-from st, standing-to st, ne), (omega (arith, less), omega (arith, facing-wide (a .rooms .now) st (a .upper) ne, free .1 ne .2 less))))
+    let s = short (c .before .before) in
+    (c .before .before .before .before .before .before .before .before .before .before .before .before .pre .0 .desk, ((standing-from st, standing-to st, s .0), (omega (arith, s .1), omega (arith, facing-wide (a .rooms .now) st (a .upper) (s .0), c .before .before .before .free-now .ensures .1 (s .0) .2 (s .1)))))
 
-same-length : tie.Need-same-length
-same-length c = search needs
+end-at-requires : tie.Need-end-at-requires
+end-at-requires c κs =
+    let s = short (c .before .before .before .before .before .before .before .before) in
+    (standing-range (standing (c .before .before .before .before .before .before .before .before .before .before .before .before .before .before)), omega (arith, s .1))
 
 same-length-2 : tie.Need-same-length-2
 same-length-2 c = search needs
 
-returns : tie.Need-returns
-returns c =
-    let a = c .before .before .before .before .before .before .before .before .before .before .before .before .before .before .before .before .before .before .args in
-    let arc = c .before .before .before .before .before .before .before .before .before .before .before .before .before .before .arc-at .result in
-    let free = c .before .before .before .before .before .before .before .before .before .free-now .ensures in
-    let less = c .before .before .before .before .before .before .before .before .if1 .taken in
-    let st = standing (c .before .before .before .before .before .before .before .before .before .before .before .before .before .before) in
-    let ne : arc .to ≡ arc .from → ⊥ = λ e. omega (arith, free .0 e, less) in
-    let lap = c .before .before .before .before .before .go-round .ensures .1 in
-    let after = c .before .before .before .before .before .go-round .last .0 in (
-      λ e. absurd (false≢true e),
-      (
-        λ e. facing-less (a .rooms .now) st after (a .upper) (omega (arith, free .1 ne .2 less, less)) (lap .round (c .if2 .taken) .wider),
-        record { plan = c .before .before .before .before .before .before .before .before .before .before .before .before .before .before .before .before .before .before .pre .0 .plan; desk = c .before .before .before .before .before .go-round .ensures .0; ready = facing-ready (a .rooms .now) st after (a .upper) (lap .still) },
-      ),
-    )
-
-end-at-requires : tie.Need-end-at-requires
-end-at-requires c κs =
-    let arc = c .before .before .before .before .before .before .arc-at .result in
-    let free = c .before .free-now .ensures in
-    (standing-range (standing (c .before .before .before .before .before .before)), by-cases (ℕ-discrete (arc .to) (arc .from)) (λ e. omega (arith, free .0 e)) (λ ne. free .1 ne .0))
-
 same-length-3 : tie.Need-same-length-3
-same-length-3 c = ⊎-elim (λ w. ap length (w .9) ∙ w .3 .kept .0) (λ w. ap length (w .1)) (c .before .if1 .came)
-
-same-length-4 : tie.Need-same-length-4
-same-length-4 c = ⊎-elim (λ w. ap length (w .10) ∙ w .3 .kept .1 .0) (λ w. ap length (w .2)) (c .before .if1 .came)
+same-length-3 c = search needs
 
 returns-2 : tie.Need-returns-2
 returns-2 c =
-    let a = c .before .before .before .before .before .before .before .before .before .before .before .args in
+    let a = c .before .before .before .before .before .before .before .before .before .before .before .before .before .before .before .before .before .before .before .args in
     let rooms = a .rooms .now in
-    let pre = c .before .before .before .before .before .before .before .before .before .before .before .pre in
-    let free = c .before .before .free-now .ensures in
-    let st = standing (c .before .before .before .before .before .before .before) in (
-      λ e. rw (c .end-at .ensures) (⊎-elim
-          (λ w. facing-end rooms st (a .upper) (there-stuck (standing-from st) (standing-to st) (free .0) (free .1) (w .0 .taken) (w .3 .ensures .1 .stuck (w .8 .left))))
-          (λ w. facing-end rooms st (a .upper) {S = λ v. false} (there-whole (standing-from st) (standing-to st) (free .0) (free .1) (w .0 .left)))
-          (c .before .if1 .came)),
+    let free = c .before .before .before .before .before .before .before .before .before .before .free-now .ensures in
+    let st = standing (c .before .before .before .before .before .before .before .before .before .before .before .before .before .before .before) in
+    let s = short (c .before .before .before .before .before .before .before .before .before) in
+    let lap = c .before .before .before .before .before .before .go-round .ensures .1 in
+    let after = c .before .before .before .before .before .before .go-round .last .0 in (
+      λ e. absurd (false≢true e),
       (
-        λ e. absurd (true≢false e),
-        ⊎-elim
-            (λ w. rw (w .9, w .10) (record { plan = pre .0 .plan; desk = w .3 .ensures .0; ready = facing-ready rooms st (w .3 .last .0) (a .upper) (w .3 .ensures .1 .still) }))
-            (λ w. rw (w .1, w .2) (pre .0))
-            (c .before .if1 .came),
+        λ e. rw (c .end-at .ensures) (facing-end rooms st (a .upper)
+            (there-stuck (standing-from st) (standing-to st) (free .0) (free .1) (s .1) (lap .stuck (not-true (c .before .before .before .before .before .before .go-round .result .turned) e)))),
+        (
+          λ e f. facing-less rooms st after (a .upper) (omega (arith, free .1 (s .0) .2 (s .1), s .1)) (lap .round (not-false (c .before .before .before .before .before .before .go-round .result .turned) f) .wider),
+          record { plan = c .before .before .before .before .before .before .before .before .before .before .before .before .before .before .before .before .before .before .before .pre .0 .plan; desk = c .before .before .before .before .before .before .go-round .ensures .0; ready = facing-ready rooms st after (a .upper) (lap .still) },
+        ),
       ),
     )
 
@@ -117,12 +112,11 @@ step-for-spec =
     cast-to
     sub-width
     free-now-requires
+    same-length
+    returns
     sub-go-round
     go-round-requires
-    same-length
-    same-length-2
-    returns
     end-at-requires
+    same-length-2
     same-length-3
-    same-length-4
     returns-2)
