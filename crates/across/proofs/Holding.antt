@@ -8,7 +8,7 @@ use native.Mathlib.Decide.{ℕ-discrete, decLt}
 use Rattle.rooms.specs.Room.{side, crossing, Fitting}
 use Rattle.rooms.specs.Move.{Taken}
 use Rattle.across.specs.Free.{Splits, Free}
-use Rattle.across.specs.Round.{Measured}
+use Rattle.across.specs.Round.{Measured, Bounded}
 use Rattle.across.specs.Hold.{CanGive, MadeRoom, HeldOut}
 use Rattle.across.proofs.Crossing.{crossing-taken}
 
@@ -20,17 +20,19 @@ all-free {width = width} {free = free} {S = S} f can = by-cases (decLt free widt
     (λ g. omega arith)
 
 module _ {n : ℕ} {room room′ : ℕ → ℕ → ℕ} {a b out home : ℕ} (few : n ≤ side) (la : a < n) (lb : b < n) (p : CanGive n room a b out home) where
-  pub made-out : {free : ℕ} {set : ℕ → Bool} → Measured n room room′ a b out free set → room a b ≤ out → MadeRoom n room room′ a b out home
-  made-out m less = record {
+  pub made-out : {free : ℕ} {set : ℕ → Bool} → Measured n room room′ a b out free set → Bounded (room a b) (room′ a b) out → room a b ≤ out
+      → MadeRoom n room room′ a b out home
+  made-out m bound less = record {
     still = m .still;
     out-fits = omega (arith, all-free (m .amount) (p .out-can), m .there);
-    home-fits = omega (arith, m .bound out less (omega arith), m .still .same .pairs a b (omega arith) (omega arith), p .pair);
+    home-fits = omega (arith, bound out less (omega arith), m .still .same .pairs a b (omega arith) (omega arith), p .pair);
   }
 
-  pub made-home : {free : ℕ} {set : ℕ → Bool} → Measured n room room′ b a home free set → out ≤ room a b → MadeRoom n room room′ a b out home
-  made-home m more = record {
+  pub made-home : {free : ℕ} {set : ℕ → Bool} → Measured n room room′ b a home free set → Bounded (room b a) (room′ b a) home → out ≤ room a b
+      → MadeRoom n room room′ a b out home
+  made-home m bound more = record {
     still = m .still;
-    out-fits = omega (arith, m .bound (room a b + room b a - out) (omega arith) (omega (arith, p .pair)), m .still .same .pairs a b (omega arith) (omega arith), p .pair);
+    out-fits = omega (arith, bound (room a b + room b a - out) (omega arith) (omega (arith, p .pair)), m .still .same .pairs a b (omega arith) (omega arith), p .pair);
     home-fits = omega (arith, all-free (m .amount) (p .home-can), m .there);
   }
 

@@ -1,3 +1,4 @@
 pub mod Crossing
 pub mod Rounds
+pub mod Flooding
 pub mod Holding

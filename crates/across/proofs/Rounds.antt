@@ -1,7 +1,7 @@
 -- Going round: the way that a search finds, what a round does, and what it means that there is no way.
 use Prim.Native.Nat.{ℕ, zero, suc, _+_, _≤_, _<_}
 use mathlib.Core.Path.{_≡_, refl, sym, ap, _∙_, subst}
-use mathlib.Core.Bool.{Bool, true, false, not, _&&_, true≢false}
+use mathlib.Core.Bool.{Bool, true, false, not, _&&_, true≢false, false≢true}
 use mathlib.Core.List.{List}
 use mathlib.Core.Logic.{by-cases, ⊎-elim}
 use native.Mathlib.Omega.{arith}
@@ -9,7 +9,7 @@ use native.Mathlib.Decide.{ℕ-discrete}
 use lib.Dec.{eqb, ltb}
 use lib.ListN.{length, set}
 use lib.Seq.{getD-set-same, getD-set-other}
-use borrow.Author.Tests.{eq-eqb, ne-eqb, eqb-true, not-true, lt-ltb, ltb-true}
+use borrow.Author.Tests.{eq-eqb, ne-eqb, eqb-true, not-true, lt-ltb, ltb-true, ltb-false}
 use Rattle.numbers.specs.Sums.{only}
 use Rattle.words.specs.Word.{holds}
 use Rattle.rooms.specs.Room.{side, at, seen, crossing, Fitting, Still}
@@ -22,7 +22,7 @@ use Rattle.numbers.proofs.Truth.{both-true, true-both, true-or-false}
 use Rattle.engine.specs.Path.{Moved}
 use Rattle.engine.proofs.Account.{crossing-pushed, pairs-pushed}
 use Rattle.across.specs.Free.{Splits, Tight, Free}
-use Rattle.across.specs.Round.{WayRound, Round, Turned}
+use Rattle.across.specs.Round.{WayRound, Round, Turned, WentRound, Measured}
 use Rattle.across.proofs.Crossing.{crossing-member, crossing-two, crossing-shut}
 
 -- ---- what the search says of the goal: where the last step to b can start
@@ -204,6 +204,20 @@ module _ {n : ℕ} {rooms ways : List ℕ} {a b start : ℕ} (back : Bool) (set 
     least = λ R s e v lv. within R s e v;
   }
 
+-- a round with a way, and one without
+pub some-went : {n : ℕ} {far : Bool} {room room′ : ℕ → ℕ → ℕ} {a b : ℕ} {set : ℕ → Bool} → Still n room room′ → (far ≡ false → room a b < room′ a b)
+    → WentRound n far room room′ a b true set
+some-went k wide = record { still = k; wider = λ f e. wide f; stuck = λ e. absurd (true≢false e); unmoved = λ e. absurd (true≢false e) }
+
+pub none-went : {n : ℕ} {far : Bool} {rooms ways : List ℕ} {a b set : ℕ} {path : ℕ → ℕ} (back : Bool) → Desk n rooms ways → a < n → b < n
+    → (depth : ℕ) → depth ≡ 0 → WayRound (leads ways back) a b path depth set → WentRound n far (seen rooms back) (seen rooms back) a b false (holds set)
+none-went {set = set} back desk la lb depth none v = let r = v .all-reached none in record {
+  still = still-none;
+  wider = λ f e. absurd (false≢true e);
+  stuck = λ e. stuck-tight back set desk la lb (r .1) (r .2) (v .outside none);
+  unmoved = λ e. refl;
+}
+
 -- ---- what is free of a width
 
 module _ {n : ℕ} {room : ℕ → ℕ → ℕ} {a b width : ℕ} {S : ℕ → Bool} (la : a < n) (lb : b < n) where
@@ -235,6 +249,32 @@ still-free {S = S} k f = record {
     least = λ R s e. t .least R s (sym (k .across R) ∙ e);
   };
 }
+
+-- a change that keeps the room out of every set, and then rounds until the direct room is wider: it is, or it is all there is across
+module _ {n : ℕ} {room room₁ room′ : ℕ → ℕ → ℕ} {a b free : ℕ} {S : ℕ → Bool} (la : a < n) (lb : b < n)
+    (k : Still n room room₁) (m : Measured n room₁ room′ a b (room a b + 1) free S) where
+  tight : ltb (room a b) free ≡ false → Tight n room a b free S
+  tight e = still-free k (m .amount) .tight (omega (arith, ltb-false (room a b) free e))
+
+  all-across : ltb (room a b) free ≡ false → free ≡ room a b
+  all-across e = let t = tight e in
+      omega (arith, ltb-false (room a b) free e, crossing-member n room S a b la lb (t .splits .inside) (t .splits .outside), t .across)
+
+  pub far-round : {far : Bool} → WentRound n far room room′ a b (ltb (room a b) free) S
+  far-round = record {
+    still = still-more k (m .still);
+    wider = λ f e. omega (arith, ltb-true (room a b) free e, m .there);
+    stuck = λ e. rw (all-across e) at (tight e);
+    unmoved = λ e. let t = tight e in omega (
+      arith,
+      all-across e,
+      m .there,
+      crossing-member n room′ S a b la lb (t .splits .inside) (t .splits .outside),
+      k .across S,
+      m .still .across S,
+      t .across,
+    );
+  }
 
 -- a way by the words is a round by the rooms
 pub round-of : {n : ℕ} {rooms ways : List ℕ} {a b depth set : ℕ} {path : ℕ → ℕ} (back : Bool) → Desk n rooms ways → a < n

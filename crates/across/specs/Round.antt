@@ -37,16 +37,20 @@ pub record Turned (n : ℕ) (room room′ : ℕ → ℕ → ℕ) (a b most : ℕ
   pub wider : room a b < room′ a b
   pub at-most : room′ a b ≤ room a b + most
 
--- one round: some is brought round, or nothing can be, and the direct room is all there is across
-pub record WentRound (n : ℕ) (room room′ : ℕ → ℕ → ℕ) (a b most : ℕ) (turned : Bool) (set : ℕ → Bool) : Type 0 where
-  pub round : turned ≡ true → Turned n room room′ a b most
+-- one round: some is brought round, or nothing can be, and the direct room is all there is across; `far`: by a flood, of which it is
+-- not said that the direct room is wider
+pub record WentRound (n : ℕ) (far : Bool) (room room′ : ℕ → ℕ → ℕ) (a b : ℕ) (turned : Bool) (set : ℕ → Bool) : Type 0 where
   pub still : Still n room room′
+  pub wider : far ≡ false → turned ≡ true → room a b < room′ a b
   pub stuck : turned ≡ false → Tight n room a b (room a b) set
   pub unmoved : turned ≡ false → room′ a b ≡ room a b
 
--- what of a width is free; so much room is there, and no more than was or was asked for
+-- what of a width is free; so much room is there
 pub record Measured (n : ℕ) (room room′ : ℕ → ℕ → ℕ) (a b width free : ℕ) (set : ℕ → Bool) : Type 0 where
   pub still : Still n room room′
   pub amount : Free n room a b width free set
   pub there : free ≤ room′ a b
-  pub bound : (m : ℕ) → room a b ≤ m → width ≤ m → room′ a b ≤ m
+
+-- the direct room is no wider than it was or was asked for
+abbrev pub Bounded : (before after width : ℕ) → Type 0
+Bounded before after width = (m : ℕ) → before ≤ m → width ≤ m → after ≤ m

@@ -1,5 +1,5 @@
 // Holding: an arc's share is taken out of the rooms of its pair, once the rooms have been made wide enough for it.
-use crate::round::measure;
+use crate::round::widen;
 use rooms::room_of;
 use ways::take_room;
 ghost use mathlib.Core.Bool.{false};
@@ -18,10 +18,10 @@ fn make_room(rooms: &mut [u32], ways: &mut [u64], n: usize, a: usize, b: usize, 
     ensures made { λ r. ⌜ MadeRoom n (seen (now (rooms .entry)) false) (seen (now (rooms .exit)) false) a b out home ⌝ }
 {
     if room_of(rooms, false, a, b) < out {
-        measure(rooms, ways, false, n, a, b, out);
+        widen(rooms, ways, false, n, a, b, out);
         return;
     }
-    measure(rooms, ways, false, n, b, a, home);
+    widen(rooms, ways, false, n, b, a, home);
 }
 
 // Takes an arc's share out of the rooms of its pair: `out` of the room from a to b, `home` of the room back.

@@ -1,5 +1,6 @@
 // Going round: a way from a to b besides the direct step, and straight back. Each round makes the room from a to b wider, at the cost
-// of the room back, and no set has more or less room leading out of it.
+// of the room back, and no set has more or less room leading out of it. After a few rounds for one pair, floods take their place.
+use crate::flood::flood;
 use engine::path::least;
 use engine::path::move_along;
 use reach::Found;
@@ -11,13 +12,13 @@ use ways::word_at;
 use words::but;
 use words::one;
 ghost use mathlib.Core.Path.{_≡_};
-ghost use mathlib.Core.Bool.{not};
+ghost use mathlib.Core.Bool.{false, not};
 ghost use Prim.Native.Nat.{ℕ, _+_, _≤_, _<_};
 ghost use lib.ListN.{length};
 ghost use Rattle.words.specs.Word.{holds};
 ghost use Rattle.rooms.specs.Room.{side, at, seen};
 ghost use Rattle.ways.specs.Ways.{leads, Desk};
-ghost use Rattle.across.specs.Round.{TwoNodes, WayRound, Round, Turned, WentRound, Measured};
+ghost use Rattle.across.specs.Round.{TwoNodes, WayRound, Round, Turned, WentRound, Measured, Bounded};
 
 // How much of a width is free, and the set that is in the way where that is not all of it.
 pub struct Passage {
@@ -103,8 +104,101 @@ pub struct Lap {
     pub set: u64,
 }
 
-// Goes round once: brings some of `most` from a to b besides the direct step, and straight back.
-pub fn go_round(
+impl Lap {
+    // After so many rounds for one pair, floods take their place.
+    pub const FEW: u32 = 12;
+
+    // One round more, counted up to the few.
+    pub fn after(rounds: u32) -> u32 {
+        if rounds < Lap::FEW {
+            return rounds + 1;
+        }
+        rounds
+    }
+}
+
+// Goes round once: brings some of `most` from a to b besides the direct step, and straight back; with `far` by a flood of the
+// levels of the search.
+fn go_round(
+    rooms: &mut [u32],
+    ways: &mut [u64],
+    back: bool,
+    n: usize,
+    a: usize,
+    b: usize,
+    most: u32,
+    far: bool,
+) -> Lap
+    requires desk { ⌜ Desk n (now rooms) (now ways) ⌝ }
+    requires nodes { ⌜ TwoNodes n a b ⌝ }
+    requires most { ⌜ (0 < most) × (most ≤ seen (now rooms) back b a) ⌝ }
+    ensures desk { λ r. ⌜ Desk n (now (rooms .exit)) (now (ways .exit)) ⌝ }
+    ensures round { λ r. ⌜ WentRound n far (seen (now (rooms .entry)) back) (seen (now (rooms .exit)) back) a b (r .turned) (holds (r .set)) ⌝ }
+    ensures most { λ r. ⌜ (far ≡ false → seen (now (rooms .exit)) back a b ≤ seen (now (rooms .entry)) back a b + most) ⌝ }
+{
+    let mut levels = [0u64; Found::LEVELS];
+    let mut path = [0u8; Found::PATH];
+    let way = way_round(ways, back, a, b, &mut levels, &mut path);
+    let depth = way.depth;
+    let set = way.set;
+    if depth == 0 {
+        return Lap { turned: false, set };
+    }
+    if far {
+        levels[depth] = one(b);
+        flood(
+            rooms,
+            ways,
+            back,
+            n,
+            a,
+            b,
+            most,
+            &mut levels,
+            depth,
+            &mut path,
+        );
+        return Lap { turned: true, set };
+    }
+    turn(rooms, ways, back, n, a, b, &path, depth, most);
+    Lap { turned: true, set }
+}
+
+// Goes round until the direct room from a to b is as wide as asked for, or a set is in the way. Says how much of the width is free.
+pub fn widen(
+    rooms: &mut [u32],
+    ways: &mut [u64],
+    back: bool,
+    n: usize,
+    a: usize,
+    b: usize,
+    width: u32,
+) -> Passage
+    requires desk { ⌜ Desk n (now rooms) (now ways) ⌝ }
+    requires nodes { ⌜ TwoNodes n a b ⌝ }
+    requires wide { ⌜ width ≤ seen (now rooms) back a b + seen (now rooms) back b a ⌝ }
+    ensures desk { λ r. ⌜ Desk n (now (rooms .exit)) (now (ways .exit)) ⌝ }
+    ensures measured { λ r. ⌜ Measured n (seen (now (rooms .entry)) back) (seen (now (rooms .exit)) back) a b width (r .free) (holds (r .set)) ⌝ }
+    ensures bound { λ r. ⌜ Bounded (seen (now (rooms .entry)) back a b) (seen (now (rooms .exit)) back a b) width ⌝ }
+{
+    loop {
+        let there = room_of(rooms, back, a, b);
+        if width <= there {
+            return Passage::whole(width);
+        }
+        let lap = go_round(rooms, ways, back, n, a, b, width - there, false);
+        if !lap.turned {
+            return Passage {
+                free: there,
+                set: lap.set,
+            };
+        }
+    }
+}
+
+// Goes round by a flood. Where the direct room is no wider then, which was never seen, plain rounds make it wider, or show that
+// nothing can be brought round.
+fn go_far(
     rooms: &mut [u32],
     ways: &mut [u64],
     back: bool,
@@ -117,21 +211,46 @@ pub fn go_round(
     requires nodes { ⌜ TwoNodes n a b ⌝ }
     requires most { ⌜ (0 < most) × (most ≤ seen (now rooms) back b a) ⌝ }
     ensures desk { λ r. ⌜ Desk n (now (rooms .exit)) (now (ways .exit)) ⌝ }
-    ensures round { λ r. ⌜ WentRound n (seen (now (rooms .entry)) back) (seen (now (rooms .exit)) back) a b most (r .turned) (holds (r .set)) ⌝ }
+    ensures round { λ r. ⌜ WentRound n false (seen (now (rooms .entry)) back) (seen (now (rooms .exit)) back) a b (r .turned) (holds (r .set)) ⌝ }
 {
-    let mut levels = [0u64; Found::LEVELS];
-    let mut path = [0u8; Found::PATH];
-    let way = way_round(ways, back, a, b, &mut levels, &mut path);
-    let depth = way.depth;
-    let set = way.set;
-    if depth == 0 {
-        return Lap { turned: false, set };
+    let there = room_of(rooms, back, a, b);
+    let lap = go_round(rooms, ways, back, n, a, b, most, true);
+    if !lap.turned {
+        return lap;
     }
-    turn(rooms, ways, back, n, a, b, &path, depth, most);
-    Lap { turned: true, set }
+    let passage = widen(rooms, ways, back, n, a, b, there + 1);
+    Lap {
+        turned: there < passage.free,
+        set: passage.set,
+    }
 }
 
-// How much of a width is free from a to b: goes round until the direct room is as wide, or a set is in the way.
+// Goes round once more for a pair after so many rounds: brings some of `most` from a to b besides the direct step, and straight
+// back.
+pub fn advance(
+    rooms: &mut [u32],
+    ways: &mut [u64],
+    back: bool,
+    n: usize,
+    a: usize,
+    b: usize,
+    most: u32,
+    rounds: u32,
+) -> Lap
+    requires desk { ⌜ Desk n (now rooms) (now ways) ⌝ }
+    requires nodes { ⌜ TwoNodes n a b ⌝ }
+    requires most { ⌜ (0 < most) × (most ≤ seen (now rooms) back b a) ⌝ }
+    ensures desk { λ r. ⌜ Desk n (now (rooms .exit)) (now (ways .exit)) ⌝ }
+    ensures round { λ r. ⌜ WentRound n false (seen (now (rooms .entry)) back) (seen (now (rooms .exit)) back) a b (r .turned) (holds (r .set)) ⌝ }
+{
+    if rounds < Lap::FEW {
+        return go_round(rooms, ways, back, n, a, b, most, false);
+    }
+    go_far(rooms, ways, back, n, a, b, most)
+}
+
+// How much of a width is free from a to b: goes round, by floods after a few rounds, until the direct room is as wide, or a set is
+// in the way.
 pub fn measure(
     rooms: &mut [u32],
     ways: &mut [u64],
@@ -147,17 +266,19 @@ pub fn measure(
     ensures desk { λ r. ⌜ Desk n (now (rooms .exit)) (now (ways .exit)) ⌝ }
     ensures measured { λ r. ⌜ Measured n (seen (now (rooms .entry)) back) (seen (now (rooms .exit)) back) a b width (r .free) (holds (r .set)) ⌝ }
 {
+    let mut rounds = 0;
     loop {
         let there = room_of(rooms, back, a, b);
         if width <= there {
             return Passage::whole(width);
         }
-        let lap = go_round(rooms, ways, back, n, a, b, width - there);
+        let lap = advance(rooms, ways, back, n, a, b, width - there, rounds);
         if !lap.turned {
             return Passage {
                 free: there,
                 set: lap.set,
             };
         }
+        rounds = Lap::after(rounds);
     }
 }

@@ -15,6 +15,7 @@ use Rattle.words.proofs.Bits.{zero-holds}
 use Rattle.engine.proofs.Account.{sum-in-less}
 use Rattle.reach.specs.Reach.{Reach}
 use Rattle.ways.specs.Ways.{Ways, leads, Desk}
+use Rattle.ways.proofs.Desks.{fitting-facing}
 use Rattle.reach.specs.Search.{Reached, Path}
 use Rattle.numbers.proofs.Truth.{both-true, true-both}
 use Rattle.engine.specs.Path.{Track, Moved}
@@ -84,15 +85,15 @@ delivered n over under over′ under′ path {depth} {d} few t m o u more = reco
 
 -- ---- the path of an errand, with rooms
 
-module _ {n : ℕ} {rooms ways : List ℕ} {over under : ℕ → ℕ} {spare lack : ℕ} (desk : Desk n rooms ways) (so : Shows n over spare)
-    (su : Shows n under lack) {path : ℕ → ℕ} {depth set : ℕ} {found : Bool} (e : Errand (leads ways false) spare lack path depth set found) where
+module _ {n : ℕ} {rooms ways : List ℕ} {over under : ℕ → ℕ} {spare lack : ℕ} (back : Bool) (desk : Desk n rooms ways) (so : Shows n over spare)
+    (su : Shows n under lack) {path : ℕ → ℕ} {depth set : ℕ} {found : Bool} (e : Errand (leads ways back) spare lack path depth set found) where
   w : Ways rooms ways
   w = desk .ways-show
 
-  rest : Fitting n (seen rooms false)
-  rest = desk .fitting
+  rest : Fitting n (seen rooms back)
+  rest = fitting-facing rooms back (desk .fitting)
 
-  pub errand-delivery : found ≡ true → Delivery n (seen rooms false) over under path depth
+  pub errand-delivery : found ≡ true → Delivery n (seen rooms back) over under path depth
   errand-delivery hit = record {
     track = record { node = node; once = p .once };
     rooms-there = there;
@@ -100,11 +101,11 @@ module _ {n : ℕ} {rooms ways : List ℕ} {over under : ℕ → ℕ} {spare lac
     some-under = ltb-true 0 (under (path depth)) (both-true (ltb (path depth) n) _ (sym (su .shown (path depth)) ∙ e .way-there hit .3 (path depth) (p .ends)) .1);
   }
     where
-      p : Path (leads ways false) side side spare (e .way-there hit .1) (e .way-there hit .0) path depth
+      p : Path (leads ways back) side side spare (e .way-there hit .1) (e .way-there hit .0) path depth
       p = e .way-there hit .2
 
-      there : (i : ℕ) → i < depth → 0 < seen rooms false (path i) (path (i + 1))
-      there i l = ltb-true 0 _ (sym (w .shown false (path i) (path (i + 1)) (p .node i (omega arith)) (p .step i l .node)) ∙ p .step i l .leads)
+      there : (i : ℕ) → i < depth → 0 < seen rooms back (path i) (path (i + 1))
+      there i l = ltb-true 0 _ (sym (w .shown back (path i) (path (i + 1)) (p .node i (omega arith)) (p .step i l .node)) ∙ p .step i l .leads)
 
       node : (i : ℕ) → i ≤ depth → path i < n
       node zero h = ltb-true (path 0) n (both-true (ltb (path 0) n) _ (sym (so .shown (path 0)) ∙ p .starts) .0)
@@ -115,13 +116,13 @@ module _ {n : ℕ} {rooms ways : List ℕ} {over under : ℕ → ℕ} {spare lac
 
   -- no path: the reach
   pub errand-none : found ≡ false
-      → Reach n (seen rooms false) over n n (holds set) × ((x : ℕ) → x < n → holds set x ≡ true → under x ≡ 0)
+      → Reach n (seen rooms back) over n n (holds set) × ((x : ℕ) → x < n → holds set x ≡ true → under x ≡ 0)
   errand-none missed = (
     record {
       holds = record { holds = λ x lx more. r .starts-in x (so .shown x ∙ true-both (ltb x n) _ (lt-ltb x n lx) (lt-ltb 0 (over x) more)) };
       closed = record {
         closed = λ x y lx ly sx st. r .closed x y sx (record {
-          leads = w .shown false x y (omega (arith, rest .few)) (omega (arith, rest .few)) ∙ lt-ltb 0 (seen rooms false x y) (st .room-there);
+          leads = w .shown back x y (omega (arith, rest .few)) (omega (arith, rest .few)) ∙ lt-ltb 0 (seen rooms back x y) (st .room-there);
           node = omega (arith, rest .few);
           not-shut = λ ex. absurd (omega (arith, rest .few));
         });
@@ -131,7 +132,7 @@ module _ {n : ℕ} {rooms ways : List ℕ} {over under : ℕ → ℕ} {spare lac
           true-both (R z) _ (h .holds z (ltb-true z n (s .0)) (ltb-true 0 (over z) (s .1))) (s .0))
           (λ y z hy o.
           let ly = ltb-true y n (both-true (R y) _ hy .1) in
-          let more = ltb-true 0 (seen rooms false y z) (sym (w .shown false y z (omega (arith, ly, rest .few)) (o .node)) ∙ o .leads) in
+          let more = ltb-true 0 (seen rooms back y z) (sym (w .shown back y z (omega (arith, ly, rest .few)) (o .node)) ∙ o .leads) in
           let lz = rest .inside y z (omega (arith, ly, rest .few)) (o .node) more .1 in
           true-both (R z) _ (c .closed y z ly lz (both-true (R y) _ hy .0) (record { room-there = more; not-shut = λ ey. absurd (omega (arith, ly)) })) (lt-ltb z n lz))
           x sx) .0;
@@ -141,7 +142,7 @@ module _ {n : ℕ} {rooms ways : List ℕ} {over under : ℕ → ℕ} {spare lac
         (λ z. omega arith),
   )
     where
-      r : Reached (leads ways false) side side spare (holds set)
+      r : Reached (leads ways back) side side spare (holds set)
       r = e .all-reached missed
 
 -- ---- one delivery after the other

@@ -11,7 +11,7 @@ use words::but;
 use words::either;
 use words::one;
 ghost use mathlib.Core.Path.{_≡_};
-ghost use mathlib.Core.Bool.{false, not};
+ghost use mathlib.Core.Bool.{not};
 ghost use Prim.Native.Nat.{ℕ, _+_, _≤_, _<_};
 ghost use lib.ListN.{length};
 ghost use Rattle.words.specs.Word.{holds};
@@ -57,12 +57,19 @@ struct Way {
 }
 
 // Looks for a path from where some is over to where it lacks.
-fn errand(ways: &[u64], spare: u64, lack: u64, levels: &mut [u64], path: &mut [u8]) -> Way
+fn errand(
+    ways: &[u64],
+    back: bool,
+    spare: u64,
+    lack: u64,
+    levels: &mut [u64],
+    path: &mut [u8],
+) -> Way
     requires whole { ⌜ (side + side ≤ length (now ways)) × (side < length (now levels)) × (side < length (now path)) ⌝ }
-    requires turned { ⌜ ((x y : ℕ) → x < side → y < side → leads (now ways) (not false) y x ≡ leads (now ways) false x y) ⌝ }
-    ensures { λ r. ⌜ Errand (leads (now (ways .entry)) false) spare lack (at (now (path .exit))) (r .depth) (r .set) (r .found) ⌝ }
+    requires turned { ⌜ ((x y : ℕ) → x < side → y < side → leads (now ways) (not back) y x ≡ leads (now ways) back x y) ⌝ }
+    ensures { λ r. ⌜ Errand (leads (now (ways .entry)) back) spare lack (at (now (path .exit))) (r .depth) (r .set) (r .found) ⌝ }
 {
-    let sought = search(ways, false, Rooms::SIDE, Rooms::SIDE, spare, lack, levels);
+    let sought = search(ways, back, Rooms::SIDE, Rooms::SIDE, spare, lack, levels);
     let depth = sought.depth;
     let met = sought.met;
     let set = sought.reached;
@@ -75,7 +82,7 @@ fn errand(ways: &[u64], spare: u64, lack: u64, levels: &mut [u64], path: &mut [u
     }
     trail(
         ways,
-        false,
+        back,
         Rooms::SIDE,
         Rooms::SIDE,
         levels,
@@ -100,6 +107,7 @@ struct Ends {
 fn deliver(
     rooms: &mut [u32],
     ways: &mut [u64],
+    back: bool,
     n: usize,
     over: &mut [u32],
     under: &mut [u32],
@@ -110,16 +118,16 @@ fn deliver(
 ) -> Ends
     requires desk { ⌜ Desk n (now rooms) (now ways) ⌝ }
     requires lists { ⌜ (n ≤ length (now over)) × (n ≤ length (now under)) × (depth < length (now path)) ⌝ }
-    requires path { ⌜ Delivery n (seen (now rooms) false) (at (now over)) (at (now under)) (at (now path)) depth ⌝ }
+    requires path { ⌜ Delivery n (seen (now rooms) back) (at (now over)) (at (now under)) (at (now path)) depth ⌝ }
     requires shown { ⌜ Shows n (at (now over)) spare × Shows n (at (now under)) lack ⌝ }
     ensures desk { λ r. ⌜ Desk n (now (rooms .exit)) (now (ways .exit)) ⌝ }
-    ensures delivered { λ r. ⌜ Delivered n (seen (now (rooms .entry)) false) (at (now (over .entry))) (at (now (under .entry))) (seen (now (rooms .exit)) false) (at (now (over .exit))) (at (now (under .exit))) ⌝ }
+    ensures delivered { λ r. ⌜ Delivered n (seen (now (rooms .entry)) back) (at (now (over .entry))) (at (now (under .entry))) (seen (now (rooms .exit)) back) (at (now (over .exit))) (at (now (under .exit))) ⌝ }
     ensures shown { λ r. ⌜ Shows n (at (now (over .exit))) (r .spare) × Shows n (at (now (under .exit))) (r .lack) ⌝ }
 {
     let s = path[0] as usize;
     let t = path[depth] as usize;
-    let d = least(rooms, false, path, depth, lesser(over[s], under[t]));
-    move_along(rooms, ways, false, path, depth, d);
+    let d = least(rooms, back, path, depth, lesser(over[s], under[t]));
+    move_along(rooms, ways, back, path, depth, d);
     let left = spend(over, spare, s, d);
     let lacks = spend(under, lack, t, d);
     Ends {
@@ -129,9 +137,10 @@ fn deliver(
 }
 
 // Settles with levels and a path that are lent for the search.
-fn settle_on(
+pub fn settle_on(
     rooms: &mut [u32],
     ways: &mut [u64],
+    back: bool,
     n: usize,
     over: &mut [u32],
     under: &mut [u32],
@@ -141,26 +150,28 @@ fn settle_on(
     requires desk { ⌜ Desk n (now rooms) (now ways) ⌝ }
     requires lists { ⌜ (n ≤ length (now over)) × (n ≤ length (now under)) × (side < length (now levels)) × (side < length (now path)) ⌝ }
     ensures desk { λ r. ⌜ Desk n (now (rooms .exit)) (now (ways .exit)) ⌝ }
-    ensures settled { λ r. ⌜ Settled n (seen (now (rooms .entry)) false) (at (now (over .entry))) (at (now (under .entry))) (seen (now (rooms .exit)) false) (at (now (over .exit))) (at (now (under .exit))) (holds r) ⌝ }
+    ensures settled { λ r. ⌜ Settled n (seen (now (rooms .entry)) back) (at (now (over .entry))) (at (now (under .entry))) (seen (now (rooms .exit)) back) (at (now (over .exit))) (at (now (under .exit))) (holds r) ⌝ }
 {
     let mut spare = word_of(over, n);
     let mut lack = word_of(under, n);
     loop {
-        let way = errand(ways, spare, lack, levels, path);
+        let way = errand(ways, back, spare, lack, levels, path);
         let depth = way.depth;
         if !way.found {
             return way.set;
         }
-        let ends = deliver(rooms, ways, n, over, under, path, depth, spare, lack);
+        let ends = deliver(rooms, ways, back, n, over, under, path, depth, spare, lack);
         spare = ends.spare;
         lack = ends.lack;
     }
 }
 
-// Moves what is over to where it lacks, until none of it gets there. Returns what it still reaches.
+// Moves what is over to where it lacks, until none of it gets there; with `back` against the rooms. Returns what it still
+// reaches.
 pub fn settle(
     rooms: &mut [u32],
     ways: &mut [u64],
+    back: bool,
     n: usize,
     over: &mut [u32],
     under: &mut [u32],
@@ -168,9 +179,9 @@ pub fn settle(
     requires desk { ⌜ Desk n (now rooms) (now ways) ⌝ }
     requires lists { ⌜ (n ≤ length (now over)) × (n ≤ length (now under)) ⌝ }
     ensures desk { λ r. ⌜ Desk n (now (rooms .exit)) (now (ways .exit)) ⌝ }
-    ensures settled { λ r. ⌜ Settled n (seen (now (rooms .entry)) false) (at (now (over .entry))) (at (now (under .entry))) (seen (now (rooms .exit)) false) (at (now (over .exit))) (at (now (under .exit))) (holds r) ⌝ }
+    ensures settled { λ r. ⌜ Settled n (seen (now (rooms .entry)) back) (at (now (over .entry))) (at (now (under .entry))) (seen (now (rooms .exit)) back) (at (now (over .exit))) (at (now (under .exit))) (holds r) ⌝ }
 {
     let mut levels = [0u64; Found::LEVELS];
     let mut path = [0u8; Found::PATH];
-    settle_on(rooms, ways, n, over, under, &mut levels, &mut path)
+    settle_on(rooms, ways, back, n, over, under, &mut levels, &mut path)
 }

@@ -1,4 +1,5 @@
 // The narrowing request of document 01, for every input.
+use across::round::Lap;
 use flow::Answer;
 use network::check;
 use network::too_short;
@@ -40,14 +41,16 @@ fn write_ends(
     let count = arcs.len() / Arc::ENTRIES;
     'lanes: for k in 0..count {
         ends[k] = own_end(arcs, k, upper);
+        let mut rounds = 0;
         let end = 'steps: loop {
-            let step = step_for(arcs, supplies, k, upper, rooms, ways);
+            let step = step_for(arcs, supplies, k, upper, rooms, ways, rounds);
             if step.stands {
                 continue 'lanes;
             }
             if step.moved {
                 break 'steps step.end;
             }
+            rounds = Lap::after(rounds);
         };
         ends[k] = end;
     }

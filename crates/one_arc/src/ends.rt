@@ -3,7 +3,7 @@
 use crate::counts::either;
 use crate::counts::end_at;
 use crate::counts::end_of;
-use across::round::go_round;
+use across::round::advance;
 use rooms::lesser;
 use rooms::room_of;
 use stand::build::arc_at;
@@ -70,7 +70,8 @@ pub struct Step {
 }
 
 // One step to the end of arc k, the low one or with `upper` the high one. It is known to stand where the arc's room is as
-// wide as the arc; else going round once makes the room wider, or shows that the end lies where the room ends.
+// wide as the arc; else going round once more, after so many rounds for this end, makes the room wider, or shows that the end
+// lies where the room ends.
 pub fn step_for(
     arcs: &[u32],
     supplies: &[i32],
@@ -78,6 +79,7 @@ pub fn step_for(
     upper: bool,
     rooms: &mut [u32],
     ways: &mut [u64],
+    rounds: u32,
 ) -> Step
     requires ready { ⌜ ReadyDesk (now arcs) (now supplies) (now rooms) (now ways) ⌝ }
     requires arc { ⌜ k < length (now arcs) / arc-entries ⌝ }
@@ -99,7 +101,7 @@ pub fn step_for(
         };
     }
     let n = supplies.len();
-    let lap = go_round(rooms, ways, upper, n, from, to, width - there);
+    let lap = advance(rooms, ways, upper, n, from, to, width - there, rounds);
     Step {
         stands: false,
         moved: !lap.turned,

@@ -25,11 +25,11 @@ pub struct Found {
 }
 
 impl Found {
-    // Levels are apart, so that there are at most as many as nodes, and the starts.
-    pub const LEVELS: usize = Rooms::SIDE + 1;
+    // Levels are apart, so that there are at most as many as nodes, and the starts; and one may be put after them.
+    pub const LEVELS: usize = Rooms::SIDE + 2;
 
     // A path through the levels, and the step from its end.
-    pub const PATH: usize = Found::LEVELS + 1;
+    pub const PATH: usize = Found::LEVELS;
 }
 
 // Where steps lead from x, without the direct step from u to v.

@@ -14,6 +14,9 @@ impl Rooms {
     pub const SIDE: usize = 64;
 
     pub const CELLS: usize = Rooms::SIDE * Rooms::SIDE;
+
+    // The most that a number can be.
+    pub const MOST: u32 = 4294967295;
 }
 
 // The place of the room from x to y; looked at backwards, of the room from y to x.

@@ -44,7 +44,7 @@ fn ask_on(
 {
     let n = supplies.len();
     build(arcs, supplies, rooms, ways, over, under);
-    let set = settle(rooms, ways, n, over, under);
+    let set = settle(rooms, ways, false, n, over, under);
     let total = total_of(over, n);
     if total == 0 {
         return Outcome {

@@ -11,8 +11,8 @@ room-of-requires c κs =
     let pre = c .before .before .before .pre in
     (pre .0 .ways-show .rooms-whole, omega (arith, pre .0 .fitting .few, pre .1 .0 .0), omega (arith, pre .0 .fitting .few, pre .1 .0 .1))
 
-measure-requires : tie.Need-measure-requires
-measure-requires c κs = let pre = c .before .before .before .before .before .before .before .pre in (pre .0, (pre .1 .0, omega (arith, pre .1 .1 .pair)))
+widen-requires : tie.Need-widen-requires
+widen-requires c κs = let pre = c .before .before .before .before .before .before .before .pre in (pre .0, (pre .1 .0, omega (arith, pre .1 .1 .pair)))
 
 same-length : tie.Need-same-length
 same-length c = search needs
@@ -23,10 +23,10 @@ same-length-2 c = search needs
 returns : tie.Need-returns
 returns c =
     let pre = c .before .before .before .before .before .before .before .before .before .before .before .before .pre in
-    (c .before .before .before .before .measure .ensures .0, made-out (pre .0 .fitting .few) (pre .1 .0 .0) (pre .1 .0 .1) (pre .1 .1) (c .before .before .before .before .measure .ensures .1) (omega (arith, c .before .before .before .before .before .before .before .before .room-of .ensures, c .before .before .before .before .before .before .before .if1 .taken)))
+    (c .before .before .before .before .widen .ensures .0, made-out (pre .0 .fitting .few) (pre .1 .0 .0) (pre .1 .0 .1) (pre .1 .1) (c .before .before .before .before .widen .ensures .1 .0) (c .before .before .before .before .widen .ensures .1 .1) (omega (arith, c .before .before .before .before .before .before .before .before .room-of .ensures, c .before .before .before .before .before .before .before .if1 .taken)))
 
-measure-requires-2 : tie.Need-measure-requires-2
-measure-requires-2 c κs =
+widen-requires-2 : tie.Need-widen-requires-2
+widen-requires-2 c κs =
     let pre = c .before .before .before .before .before .before .before .pre in
     let nodes = pre .1 .0 in
     (pre .0, ((nodes .1, nodes .0, λ e. nodes .2 (sym e)), omega (arith, pre .1 .1 .pair)))
@@ -40,18 +40,18 @@ same-length-4 c = search needs
 returns-2 : tie.Need-returns-2
 returns-2 c =
     let pre = c .before .before .before .before .before .before .before .before .before .before .before .before .pre in
-    (c .before .before .before .before .measure2 .ensures .0, made-home (pre .0 .fitting .few) (pre .1 .0 .0) (pre .1 .0 .1) (pre .1 .1) (c .before .before .before .before .measure2 .ensures .1) (omega (arith, c .before .before .before .before .before .before .before .before .room-of .ensures, c .before .before .before .before .before .before .before .if1 .left)))
+    (c .before .before .before .before .widen2 .ensures .0, made-home (pre .0 .fitting .few) (pre .1 .0 .0) (pre .1 .0 .1) (pre .1 .1) (c .before .before .before .before .widen2 .ensures .1 .0) (c .before .before .before .before .widen2 .ensures .1 .1) (omega (arith, c .before .before .before .before .before .before .before .before .room-of .ensures, c .before .before .before .before .before .before .before .if1 .left)))
 
 pub make-room-spec : {M : Type 1} → statement M
 make-room-spec =
     tie.close
     (tie.spec
     room-of-requires
-    measure-requires
+    widen-requires
     same-length
     same-length-2
     returns
-    measure-requires-2
+    widen-requires-2
     same-length-3
     same-length-4
     returns-2)

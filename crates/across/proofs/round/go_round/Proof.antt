@@ -1,8 +1,10 @@
--- There is a way round, and some is turned along it; or there is none, and the set that was reached is tight.
-use mathlib.Core.Path.{refl, sym}
-use mathlib.Core.Bool.{false≢true}
+-- There is a way round, and some is turned along it, or the levels that led there are flooded; or there is none, and the set that was
+-- reached is tight.
+use mathlib.Core.Path.{sym, _∙_}
+use mathlib.Core.Bool.{true≢false}
+use lib.ListN.{length-set}
 use Rattle.ways.proofs.Desks.{ways-turned}
-use Rattle.across.proofs.Rounds.{still-none, stuck-tight, round-of}
+use Rattle.across.proofs.Rounds.{some-went, none-went, round-of}
 use borrow.Author.Needs.{needs}
 use native.Mathlib.Omega.{arith}
 use Rattle.across.proofs.round.go_round.Statement.{statement}
@@ -29,25 +31,28 @@ same-length c = search needs
 returns : tie.Need-returns
 returns c =
     let pre = c .before .before .before .before .before .before .before .before .before .pre in
-    let v = c .before .before .before .way-round .ensures .0 in
-    let r = v .all-reached (c .if1 .taken) in (
-      pre .0,
-      record {
-        round = λ e. absurd (false≢true e);
-        still = still-none;
-        stuck = λ e. stuck-tight (c .before .before .before .before .before .before .before .before .before .args .back) _ (pre .0) (pre .1 .0 .0) (pre .1 .0 .1) (r .1) (r .2) (v .outside (c .if1 .taken));
-        unmoved = λ e. refl;
-      },
-    )
+    (pre .0, (none-went (c .before .before .before .before .before .before .before .before .before .args .back) (pre .0) (pre .1 .0 .0) (pre .1 .0 .1) (c .before .before .before .way-round .result .depth) (c .if1 .taken) (c .before .before .before .way-round .ensures .0), λ e. omega arith))
 
-slice-aggregate-turn : tie.Need-slice-aggregate-turn
-slice-aggregate-turn c = search needs
+one-requires : tie.Need-one-requires
+one-requires c κs = search needs
 
-turn-requires : tie.Need-turn-requires
-turn-requires c κs =
-    let pre = c .before .before .before .before .before .before .before .before .before .before .before .before .pre in
-    let v = c .before .before .before .before .before .before .way-round .ensures in
-    (pre .0, (pre .1 .0, ((omega (arith, v .1, c .before .before .before .before .before .before .way-round .kept .1 .1 .1 .1 .1 .0), round-of (c .before .before .before .before .before .before .before .before .before .before .before .before .args .back) (pre .0) (pre .1 .0 .0) (v .0) (omega (arith, c .before .before .before .if1 .left))), pre .1 .1)))
+mul-levels : tie.Need-mul-levels
+mul-levels c = search needs
+
+array-write-levels : tie.Need-array-write-levels
+array-write-levels c = search needs
+
+slice-aggregate-flood : tie.Need-slice-aggregate-flood
+slice-aggregate-flood c = search needs
+
+slice-aggregate-flood-2 : tie.Need-slice-aggregate-flood-2
+slice-aggregate-flood-2 c = search needs
+
+flood-requires : tie.Need-flood-requires
+flood-requires c κs =
+    let pre = c .before .before .before .before .before .before .before .before .before .before .before .before .before .before .before .pre in
+    let k = c .before .before .before .before .before .before .before .before .before .way-round .kept .1 .1 .1 .1 in
+    (pre .0, ((pre .1 .0 .0, pre .1 .0 .1), (simp length-set (omega (arith, k .0, c .before .before .before .before .before .before .before .before .before .way-round .ensures .1)), simp length-set (omega (arith, k .0)), omega (arith, k .1 .0))))
 
 same-length-2 : tie.Need-same-length-2
 same-length-2 c = search needs
@@ -57,8 +62,27 @@ same-length-3 c = search needs
 
 returns-2 : tie.Need-returns-2
 returns-2 c =
-    let t = c .before .before .before .before .turn .ensures in
-    (t .0, record { round = λ e. t .1; still = t .1 .still; stuck = λ e. absurd (false≢true (sym e)); unmoved = λ e. absurd (false≢true (sym e)) })
+    let f = c .before .before .before .before .before .before .flood .ensures in
+    (f .0, (some-went (f .1) (λ e. absurd (true≢false (sym (c .before .before .before .before .before .before .before .before .before .before .before .before .if2 .taken) ∙ e))), λ e. absurd (true≢false (sym (c .before .before .before .before .before .before .before .before .before .before .before .before .if2 .taken) ∙ e))))
+
+slice-aggregate-turn : tie.Need-slice-aggregate-turn
+slice-aggregate-turn c = search needs
+
+turn-requires : tie.Need-turn-requires
+turn-requires c κs =
+    let pre = c .before .before .before .before .before .before .before .before .before .before .before .before .before .pre in
+    let v = c .before .before .before .before .before .before .before .way-round .ensures in
+    (pre .0, (pre .1 .0, ((omega (arith, v .1, c .before .before .before .before .before .before .before .way-round .kept .1 .1 .1 .1 .1 .0), round-of (c .before .before .before .before .before .before .before .before .before .before .before .before .before .args .back) (pre .0) (pre .1 .0 .0) (v .0) (omega (arith, c .before .before .before .before .if1 .left))), pre .1 .1)))
+
+same-length-4 : tie.Need-same-length-4
+same-length-4 c = search needs
+
+same-length-5 : tie.Need-same-length-5
+same-length-5 c = search needs
+
+returns-3 : tie.Need-returns-3
+returns-3 c =
+    let t = c .before .before .before .before .turn .ensures in (t .0, (some-went (t .1 .still) (λ e. t .1 .wider), λ e. t .1 .at-most))
 
 pub go-round-spec : {M : Type 1} → statement M
 go-round-spec =
@@ -69,8 +93,17 @@ go-round-spec =
     way-round-requires
     same-length
     returns
-    slice-aggregate-turn
-    turn-requires
+    one-requires
+    mul-levels
+    array-write-levels
+    slice-aggregate-flood
+    slice-aggregate-flood-2
+    flood-requires
     same-length-2
     same-length-3
-    returns-2)
+    returns-2
+    slice-aggregate-turn
+    turn-requires
+    same-length-4
+    same-length-5
+    returns-3)

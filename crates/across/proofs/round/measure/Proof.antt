@@ -1,7 +1,7 @@
--- Each round keeps the room out of every set and brings the direct room nearer to the width; left at the width, all of it is free, and
--- left without a way, the direct room is.
+-- Each round or flood keeps the room out of every set and brings the direct room nearer to the width; left at the width, all of it is
+-- free, and left without a way, the direct room is.
 use mathlib.Core.Path.{_≡_, refl, _∙_}
-use Prim.Native.Nat.{ℕ, _-_, _≤_, _<_}
+use Prim.Native.Nat.{_-_, _≤_, _<_}
 use lib.ListN.{length}
 use borrow.Author.Tests.{not-true, not-false}
 use Rattle.rooms.specs.Room.{side, seen, Still}
@@ -13,15 +13,14 @@ use Rattle.across.proofs.round.measure.Statement.{statement}
 use Rattle.across.proofs.round.measure.Tie as tie
 
 abbrev Inv-loop : tie.InvT-loop
-Inv-loop rooms₀ ways₀ back n a b width rooms ways =
+Inv-loop rooms₀ ways₀ back n a b width rounds₀ rooms ways rounds =
     (length rooms ≡ length rooms₀) × (length ways ≡ length ways₀) × Desk n rooms ways × Still n (seen rooms₀ back) (seen rooms back)
-    × ((m : ℕ) → seen rooms₀ back a b ≤ m → width ≤ m → seen rooms back a b ≤ m)
 
 abbrev μ-loop : tie.MeasureT-loop
-μ-loop rooms₀ ways₀ back n a b width rooms ways = width - seen rooms back a b
+μ-loop rooms₀ ways₀ back n a b width rounds₀ rooms ways rounds = width - seen rooms back a b
 
 loop-holds : tie.Need-loop-holds Inv-loop μ-loop
-loop-holds c = (refl, refl, c .before .before .pre .0, still-none, λ m l w. l)
+loop-holds c = (refl, refl, c .before .before .pre .0, still-none)
 
 room-of-requires : tie.Need-room-of-requires Inv-loop μ-loop
 room-of-requires c κs =
@@ -43,24 +42,19 @@ returns c =
     let nodes = c .before .before .before .before .before .before .before .pre .1 .0 in
     let inv = c .before .before .before .before .loop .inv in
     let wide : a .width ≤ seen (c .before .before .before .before .loop .rooms) (a .back) (a .a) (a .b) = omega (arith, c .before .if1 .taken, c .before .before .room-of .ensures) in
-    rw (c .whole .ensures) (inv .2, record { still = inv .3; amount = still-free (inv .3) (whole-free (nodes .0) (nodes .1) wide); there = wide; bound = inv .4 })
+    rw (c .whole .ensures) (inv .2, record { still = inv .3; amount = still-free (inv .3) (whole-free (nodes .0) (nodes .1) wide); there = wide })
 
-sub-go-round : tie.Need-sub-go-round Inv-loop μ-loop
-sub-go-round c = search needs
+sub-advance : tie.Need-sub-advance Inv-loop μ-loop
+sub-advance c = search needs
 
-go-round-requires : tie.Need-go-round-requires Inv-loop μ-loop
-go-round-requires c κs =
+advance-requires : tie.Need-advance-requires Inv-loop μ-loop
+advance-requires c κs =
     let a = c .before .before .before .before .before .before .before .before .args in
     let pre = c .before .before .before .before .before .before .before .before .pre in
     let inv = c .before .before .before .before .before .loop .inv in
     let la : a .a < side = omega (arith, pre .0 .fitting .few, pre .1 .0 .0) in
-    let lb : a .b < side = omega (arith, pre .0 .fitting .few, pre .1 .0 .1) in (
-      inv .2,
-      (
-        pre .1 .0,
-        (omega (arith, c .before .before .if1 .left), omega (arith, c .before .before .before .room-of .ensures, pre .1 .1, inv .3 .same .pairs (a .a) (a .b) la lb)),
-      ),
-    )
+    let lb : a .b < side = omega (arith, pre .0 .fitting .few, pre .1 .0 .1) in
+    (inv .2, (pre .1 .0, (omega (arith, c .before .before .if1 .left), omega (arith, c .before .before .before .room-of .ensures, pre .1 .1, inv .3 .same .pairs (a .a) (a .b) la lb))))
 
 same-length-3 : tie.Need-same-length-3 Inv-loop μ-loop
 same-length-3 c = search needs
@@ -72,35 +66,28 @@ returns-2 : tie.Need-returns-2 Inv-loop μ-loop
 returns-2 c =
     let nodes = c .before .before .before .before .before .before .before .before .before .before .before .before .before .before .before .pre .1 .0 in
     let inv = c .before .before .before .before .before .before .before .before .before .before .before .before .loop .inv in
-    let g = c .before .before .before .before .before .before .go-round .ensures in
-    let no-way = not-true (c .before .before .before .before .before .before .go-round .result .turned) (c .if2 .taken) in
-    let still = still-more (inv .3) (g .1 .still) in
+    let g = c .before .before .before .before .before .before .advance .ensures in
+    let no-way = not-true (c .before .before .before .before .before .before .advance .result .turned) (c .if2 .taken) in
     rw (c .before .before .before .before .before .before .before .before .before .before .room-of .ensures) (
       g .0,
       record {
-        still = still;
+        still = still-more (inv .3) (g .1 .still);
         amount = still-free (inv .3) (stuck-free (nodes .0) (nodes .1) (omega (arith, c .before .before .before .before .before .before .before .before .before .if1 .left, c .before .before .before .before .before .before .before .before .before .before .room-of .ensures)) (g .1 .stuck no-way));
         there = omega (arith, g .1 .unmoved no-way);
-        bound = λ m l w. omega (arith, g .1 .unmoved no-way, inv .4 m l w);
       },
     )
 
+after-requires : tie.Need-after-requires Inv-loop μ-loop
+after-requires c κs = search needs
+
 loop-less : tie.Need-loop-less Inv-loop μ-loop
 loop-less c =
-    let g = c .before .before .before .before .before .before .go-round .ensures .1 .round (not-false (c .before .before .before .before .before .before .go-round .result .turned) (c .if2 .left)) in
-    omega (arith, g .wider, c .before .before .before .before .before .before .before .before .before .if1 .left, c .before .before .before .before .before .before .before .before .before .before .room-of .ensures)
+    omega (arith, c .before .before .before .before .before .before .before .advance .ensures .1 .wider refl (not-false (c .before .before .before .before .before .before .before .advance .result .turned) (c .before .if2 .left)), c .before .before .before .before .before .before .before .before .before .before .if1 .left, c .before .before .before .before .before .before .before .before .before .before .before .room-of .ensures)
 
 loop-again : tie.Need-loop-again Inv-loop μ-loop
 loop-again c =
-    let inv = c .before .before .before .before .before .before .before .before .before .before .before .before .loop .inv in
-    let g = c .before .before .before .before .before .before .go-round .ensures in
-    let t = g .1 .round (not-false (c .before .before .before .before .before .before .go-round .result .turned) (c .if2 .left)) in (
-      c .before .before .before .before .before .before .go-round .kept .0 ∙ inv .0,
-      c .before .before .before .before .before .before .go-round .kept .1 .0 ∙ inv .1,
-      g .0,
-      still-more (inv .3) (t .still),
-      λ m l w. omega (arith, t .at-most, c .before .before .before .before .before .before .before .before .before .if1 .left, c .before .before .before .before .before .before .before .before .before .before .room-of .ensures),
-    )
+    let inv = c .before .before .before .before .before .before .before .before .before .before .before .before .before .loop .inv in
+    let g = c .before .before .before .before .before .before .before .advance .ensures in (c .before .before .before .before .before .before .before .advance .kept .0 ∙ inv .0, c .before .before .before .before .before .before .before .advance .kept .1 .0 ∙ inv .1, g .0, still-more (inv .3) (g .1 .still))
 
 pub measure-spec : {M : Type 1} → statement M
 measure-spec =
@@ -114,10 +101,11 @@ measure-spec =
     same-length
     same-length-2
     returns
-    sub-go-round
-    go-round-requires
+    sub-advance
+    advance-requires
     same-length-3
     same-length-4
     returns-2
+    after-requires
     loop-less
     loop-again)

@@ -1,7 +1,6 @@
 -- What moves along the path is over at its first node no more, and lacks at its last no more.
-use mathlib.Core.Bool.{false}
 use Rattle.rooms.specs.Room.{at}
-use Rattle.ways.proofs.Desks.{desk-kept}
+use Rattle.ways.proofs.Desks.{fitting-facing, desk-kept}
 use Rattle.engine.proofs.Moving.{least-some}
 use Rattle.engine.proofs.Settling.{delivered}
 use native.Mathlib.Omega.{arith}
@@ -49,7 +48,7 @@ least-requires c κs =
 move-along-requires : tie.Need-move-along-requires
 move-along-requires c κs =
     let pre = c .before .before .before .before .before .before .before .before .before .before .before .before .before .before .pre in
-    (pre .0 .ways-show, ((pre .1 .0 .2, (c .before .before .before .before .before .before .before .before .before .before .before .before .before .before .args .n, (pre .0 .fitting .few, pre .1 .1 .0 .track))), (c .before .before .least .ensures .fits, pre .0 .fitting .small)))
+    (pre .0 .ways-show, ((pre .1 .0 .2, (c .before .before .before .before .before .before .before .before .before .before .before .before .before .before .args .n, (pre .0 .fitting .few, pre .1 .1 .0 .track))), (c .before .before .least .ensures .fits, fitting-facing (c .before .before .before .before .before .before .before .before .before .before .before .before .before .before .args .rooms .now) (c .before .before .before .before .before .before .before .before .before .before .before .before .before .before .args .back) (pre .0 .fitting) .small)))
 
 spend-requires : tie.Need-spend-requires
 spend-requires c κs =
@@ -78,7 +77,7 @@ returns c =
     let p = pre .1 .1 .0 in
     let few = pre .0 .fitting .few in
     let moved = c .before .before .before .before .before .before .before .before .before .before .before .before .move-along .ensures .0 (a .n) few (p .track) in (
-      desk-kept false (pre .0) (c .before .before .before .before .before .before .before .before .before .before .before .before .move-along .ensures .1) (moved .same),
+      desk-kept (a .back) (pre .0) (c .before .before .before .before .before .before .before .before .before .before .before .before .move-along .ensures .1) (moved .same),
       (
         delivered (a .n) (at (a .over .now)) (at (a .under .now)) _ _ (at (a .path .now)) few (p .track) moved
             (c .before .before .before .before .before .before .spend .ensures .0) (c .before .before .spend2 .ensures .0) (least-some (c .before .before .before .before .before .before .before .before .before .before .before .before .before .before .before .least .ensures) (c .before .before .before .before .before .before .before .before .before .before .before .before .before .before .before .before .lesser .ensures .2 (p .some-over) (p .some-under)) (p .rooms-there)),

@@ -1,7 +1,6 @@
 -- One delivery after the other keeps the accounts and leaves less over; where no path is left, what is over reaches no lack.
 use mathlib.Core.Path.{_≡_, refl, _∙_}
 use lib.ListN.{length}
-use mathlib.Core.Bool.{false}
 use borrow.Author.Tests.{not-true, not-false}
 use Rattle.numbers.specs.Sums.{sum}
 use Rattle.rooms.specs.Room.{at, seen, Kept}
@@ -15,14 +14,14 @@ use Rattle.engine.proofs.settle.settle_on.Statement.{statement}
 use Rattle.engine.proofs.settle.settle_on.Tie as tie
 
 abbrev Inv-loop : tie.InvT-loop
-Inv-loop rooms₀ ways₀ n over₀ under₀ levels₀ path₀ spare₀ lack₀ rooms ways over under levels path spare lack =
+Inv-loop rooms₀ ways₀ back n over₀ under₀ levels₀ path₀ spare₀ lack₀ rooms ways over under levels path spare lack =
     (length rooms ≡ length rooms₀) × (length ways ≡ length ways₀) × (length over ≡ length over₀) × (length under ≡ length under₀)
     × (length levels ≡ length levels₀) × (length path ≡ length path₀) × Desk n rooms ways
-    × Kept n (seen rooms₀ false) (at over₀) (at under₀) (seen rooms false) (at over) (at under)
+    × Kept n (seen rooms₀ back) (at over₀) (at under₀) (seen rooms back) (at over) (at under)
     × Shows n (at over) spare × Shows n (at under) lack
 
 abbrev μ-loop : tie.MeasureT-loop
-μ-loop rooms₀ ways₀ n over₀ under₀ levels₀ path₀ spare₀ lack₀ rooms ways over under levels path spare lack = sum n (at over)
+μ-loop rooms₀ ways₀ back n over₀ under₀ levels₀ path₀ spare₀ lack₀ rooms ways over under levels path spare lack = sum n (at over)
 
 word-of-requires : tie.Need-word-of-requires Inv-loop μ-loop
 word-of-requires c κs = (c .before .before .before .before .before .before .before .pre .0 .fitting .few, c .before .before .before .before .before .before .before .pre .1 .0)
@@ -37,7 +36,7 @@ errand-requires : tie.Need-errand-requires Inv-loop μ-loop
 errand-requires c κs =
     let pre = c .before .before .before .before .before .before .before .before .before .before .before .before .before .before .pre in
     let inv = c .before .before .before .loop .inv in
-    ((inv .6 .ways-show .ways-whole, omega (arith, inv .4, pre .1 .2), omega (arith, inv .5, pre .1 .3)), ways-turned (inv .6 .ways-show) false)
+    ((inv .6 .ways-show .ways-whole, omega (arith, inv .4, pre .1 .2), omega (arith, inv .5, pre .1 .3)), ways-turned (inv .6 .ways-show) (c .before .before .before .before .before .before .before .before .before .before .before .before .before .before .args .back))
 
 same-length : tie.Need-same-length Inv-loop μ-loop
 same-length c = search needs
@@ -60,7 +59,7 @@ same-length-6 c = search needs
 returns : tie.Need-returns Inv-loop μ-loop
 returns c =
     let inv = c .before .before .before .before .before .before .before .before .before .before .loop .inv in
-    let e = errand-none (inv .6) (inv .8) (inv .9) (c .before .before .before .before .before .before .errand .ensures) (not-true (c .before .before .before .before .before .before .errand .result .found) (c .if1 .taken)) in
+    let e = errand-none (c .before .before .before .before .before .before .before .before .before .before .before .before .before .before .before .before .before .before .before .before .before .args .back) (inv .6) (inv .8) (inv .9) (c .before .before .before .before .before .before .errand .ensures) (not-true (c .before .before .before .before .before .before .errand .result .found) (c .if1 .taken)) in
     (inv .6, record { kept = inv .7; reach = e .0; none-under = e .1 })
 
 deliver-requires : tie.Need-deliver-requires Inv-loop μ-loop
@@ -70,8 +69,8 @@ deliver-requires c κs =
     let e = c .before .before .before .before .before .before .before .before .before .before .before .errand .ensures in (
       inv .6,
       (
-        (omega (arith, inv .2, pre .1 .0), omega (arith, inv .3, pre .1 .1), omega (arith, inv .5, pre .1 .3, e .fits, c .before .before .before .before .before .before .before .before .before .before .before .errand .kept .1 .1 .1 .1 .0)),
-        (errand-delivery (inv .6) (inv .8) (inv .9) e (not-false (c .before .before .before .before .before .before .before .before .before .before .before .errand .result .found) (c .before .before .before .before .before .if1 .left)), (inv .8, inv .9)),
+        (omega (arith, inv .2, pre .1 .0), omega (arith, inv .3, pre .1 .1), omega (arith, inv .5, pre .1 .3, e .fits, c .before .before .before .before .before .before .before .before .before .before .before .errand .kept .1 .1 .1 .1 .1 .0)),
+        (errand-delivery (c .before .before .before .before .before .before .before .before .before .before .before .before .before .before .before .before .before .before .before .before .before .before .before .before .before .before .args .back) (inv .6) (inv .8) (inv .9) e (not-false (c .before .before .before .before .before .before .before .before .before .before .before .errand .result .found) (c .before .before .before .before .before .if1 .left)), (inv .8, inv .9)),
       ),
     )
 
@@ -85,10 +84,10 @@ loop-again c =
     let k = c .before .before .before .before .before .before .before .before .deliver .kept in (
       k .0 ∙ inv .0,
       k .1 .0 ∙ inv .1,
-      k .1 .1 .1 .0 ∙ inv .2,
-      k .1 .1 .1 .1 .0 ∙ inv .3,
-      c .before .before .before .before .before .before .before .before .before .before .before .before .before .before .before .before .before .before .before .before .errand .kept .1 .1 .1 .0 ∙ inv .4,
-      c .before .before .before .before .before .before .before .before .before .before .before .before .before .before .before .before .before .before .before .before .errand .kept .1 .1 .1 .1 .0 ∙ inv .5,
+      k .1 .1 .1 .1 .0 ∙ inv .2,
+      k .1 .1 .1 .1 .1 .0 ∙ inv .3,
+      c .before .before .before .before .before .before .before .before .before .before .before .before .before .before .before .before .before .before .before .before .errand .kept .1 .1 .1 .1 .0 ∙ inv .4,
+      c .before .before .before .before .before .before .before .before .before .before .before .before .before .before .before .before .before .before .before .before .errand .kept .1 .1 .1 .1 .1 .0 ∙ inv .5,
       d .0,
       kept-on (inv .7) (d .1 .0 .kept),
       d .1 .1 .0,

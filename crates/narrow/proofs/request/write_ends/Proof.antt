@@ -25,11 +25,11 @@ abbrev μ-lanes : tie.MeasureT-lanes
 μ-lanes arcs supplies upper ends₀ rooms₀ ways₀ count k₀ ends rooms ways k = length arcs / arc-entries - k
 
 abbrev Inv-steps : tie.InvT-steps
-Inv-steps arcs supplies upper ends rooms₀ ways₀ count k₀ rooms ways k =
+Inv-steps arcs supplies upper ends rooms₀ ways₀ count k₀ rounds₀ rooms ways k rounds =
     (k ≡ k₀) × (length rooms ≡ length rooms₀) × (length ways ≡ length ways₀) × ReadyDesk arcs supplies rooms ways
 
 abbrev μ-steps : tie.MeasureT-steps
-μ-steps arcs supplies upper ends rooms₀ ways₀ count k₀ rooms ways k = lacking (plan-of arcs supplies) k upper rooms
+μ-steps arcs supplies upper ends rooms₀ ways₀ count k₀ rounds₀ rooms ways k rounds = lacking (plan-of arcs supplies) k upper rooms
 
 lanes-holds : tie.Need-lanes-holds Inv-steps μ-steps Inv-lanes μ-lanes
 lanes-holds c = (omega arith, entries-none, refl, refl, c .before .before .before .before .pre .0)
@@ -68,14 +68,17 @@ lanes-again c =
       c .before .before .before .before .before .step-for .ensures .1 .1 .1,
     )
 
+after-requires : tie.Need-after-requires Inv-steps μ-steps Inv-lanes μ-lanes
+after-requires c κs = search needs
+
 steps-less : tie.Need-steps-less Inv-steps μ-steps Inv-lanes μ-lanes
-steps-less c = c .before .before .before .before .before .before .step-for .ensures .1 .1 .0 (c .before .if1 .left) (c .if2 .left)
+steps-less c = c .before .before .before .before .before .before .before .step-for .ensures .1 .1 .0 (c .before .before .if1 .left) (c .before .if2 .left)
 
 steps-again : tie.Need-steps-again Inv-steps μ-steps Inv-lanes μ-lanes
 steps-again c =
-    let s = c .before .before .before .before .before .before .before .before .before .steps .inv in
-    let k = c .before .before .before .before .before .before .step-for .kept in
-    (s .0, k .1 .1 .1 .1 .0 ∙ s .1, k .1 .1 .1 .1 .1 .0 ∙ s .2, c .before .before .before .before .before .before .step-for .ensures .1 .1 .1)
+    let s = c .before .before .before .before .before .before .before .before .before .before .steps .inv in
+    let k = c .before .before .before .before .before .before .before .step-for .kept in
+    (s .0, k .1 .1 .1 .1 .0 ∙ s .1, k .1 .1 .1 .1 .1 .0 ∙ s .2, c .before .before .before .before .before .before .before .step-for .ensures .1 .1 .1)
 
 mul-ends-2 : tie.Need-mul-ends-2 Inv-steps μ-steps Inv-lanes μ-lanes
 mul-ends-2 c = search needs
@@ -136,6 +139,7 @@ write-ends-spec =
     add-k
     lanes-less
     lanes-again
+    after-requires
     steps-less
     steps-again
     mul-ends-2

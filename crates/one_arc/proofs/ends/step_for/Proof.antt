@@ -1,5 +1,5 @@
 -- Where nothing lacks the end stands; else some is brought round and the room is wider, or the end lies where the room ends.
-use mathlib.Core.Path.{_≡_}
+use mathlib.Core.Path.{_≡_, refl}
 use mathlib.Core.Bool.{false, true≢false, false≢true}
 use native.Mathlib.Omega.{arith}
 use borrow.Author.Tests.{not-true, not-false}
@@ -62,11 +62,11 @@ returns c =
       (λ e. absurd (false≢true e), (λ e. absurd (true≢false e), c .before .before .before .before .before .before .before .before .before .before .pre .0)),
     )
 
-sub-go-round : tie.Need-sub-go-round
-sub-go-round c = omega (arith, short (c .before .before))
+sub-advance : tie.Need-sub-advance
+sub-advance c = omega (arith, short (c .before .before))
 
-go-round-requires : tie.Need-go-round-requires
-go-round-requires c κs =
+advance-requires : tie.Need-advance-requires
+advance-requires c κs =
     let a = c .before .before .before .before .before .before .before .before .before .before .before .before .args in
     let st = standing (c .before .before .before .before .before .before .before .before) in
     let s = short (c .before .before) in
@@ -90,15 +90,15 @@ returns-2 c =
     let free = c .before .before .before .before .before .before .before .before .before .before .free-now .ensures in
     let st = standing (c .before .before .before .before .before .before .before .before .before .before .before .before .before .before .before) in
     let s = short (c .before .before .before .before .before .before .before .before .before) in
-    let lap = c .before .before .before .before .before .before .go-round .ensures .1 in
-    let after = c .before .before .before .before .before .before .go-round .last .0 in (
+    let lap = c .before .before .before .before .before .before .advance .ensures .1 in
+    let after = c .before .before .before .before .before .before .advance .last .0 in (
       λ e. absurd (false≢true e),
       (
         λ e. rw (c .end-at .ensures) (facing-end rooms st (a .upper)
-            (there-stuck (standing-from st) (standing-to st) (free .0) (free .1) (s .1) (lap .stuck (not-true (c .before .before .before .before .before .before .go-round .result .turned) e)))),
+            (there-stuck (standing-from st) (standing-to st) (free .0) (free .1) (s .1) (lap .stuck (not-true (c .before .before .before .before .before .before .advance .result .turned) e)))),
         (
-          λ e f. facing-less rooms st after (a .upper) (omega (arith, free .1 (s .0) .2 (s .1), s .1)) (lap .round (not-false (c .before .before .before .before .before .before .go-round .result .turned) f) .wider),
-          record { plan = c .before .before .before .before .before .before .before .before .before .before .before .before .before .before .before .before .before .before .before .pre .0 .plan; desk = c .before .before .before .before .before .before .go-round .ensures .0; ready = facing-ready rooms st after (a .upper) (lap .still) },
+          λ e f. facing-less rooms st after (a .upper) (omega (arith, free .1 (s .0) .2 (s .1), s .1)) (lap .wider refl (not-false (c .before .before .before .before .before .before .advance .result .turned) f)),
+          record { plan = c .before .before .before .before .before .before .before .before .before .before .before .before .before .before .before .before .before .before .before .pre .0 .plan; desk = c .before .before .before .before .before .before .advance .ensures .0; ready = facing-ready rooms st after (a .upper) (lap .still) },
         ),
       ),
     )
@@ -114,8 +114,8 @@ step-for-spec =
     free-now-requires
     same-length
     returns
-    sub-go-round
-    go-round-requires
+    sub-advance
+    advance-requires
     end-at-requires
     same-length-2
     same-length-3

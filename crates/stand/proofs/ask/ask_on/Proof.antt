@@ -23,7 +23,7 @@ settle-requires c κs =
 total-of-requires : tie.Need-total-of-requires
 total-of-requires c κs =
     let pre = c .before .before .before .before .before .before .before .before .before .before .before .before .before .before .before .before .before .before .before .before .before .before .before .before .before .before .before .before .before .before .before .before .pre in
-    (pre .0 .plan .nodes-fit, omega (arith, pre .1 .0, c .before .before .before .before .before .before .before .before .before .before .before .before .before .before .before .before .before .before .before .before .before .before .build .kept .1 .1 .1 .1 .0, c .before .before .before .before .before .before .before .before .before .settle .kept .1 .1 .1 .0))
+    (pre .0 .plan .nodes-fit, omega (arith, pre .1 .0, c .before .before .before .before .before .before .before .before .before .before .before .before .before .before .before .before .before .before .before .before .before .before .build .kept .1 .1 .1 .1 .0, c .before .before .before .before .before .before .before .before .before .settle .kept .1 .1 .1 .1 .0))
 
 same-length : tie.Need-same-length
 same-length c = search needs
