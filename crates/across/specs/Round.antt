@@ -37,8 +37,8 @@ pub record Turned (n : ℕ) (room room′ : ℕ → ℕ → ℕ) (a b most : ℕ
   pub wider : room a b < room′ a b
   pub at-most : room′ a b ≤ room a b + most
 
--- one round: some is brought round, or nothing can be, and the direct room is all there is across; `far`: by a flood, of which it is
--- not said that the direct room is wider
+-- one round: some is brought round, or nothing can be, and the direct room is all there is across; `far`: by a flood alone, of which it
+-- is not said that the direct room is wider
 pub record WentRound (n : ℕ) (far : Bool) (room room′ : ℕ → ℕ → ℕ) (a b : ℕ) (turned : Bool) (set : ℕ → Bool) : Type 0 where
   pub still : Still n room room′
   pub wider : far ≡ false → turned ≡ true → room a b < room′ a b

@@ -1,5 +1,5 @@
 // A flood: where a path would bring a unit at a time, all the levels of a search are moved through at once. Going back over them,
-// each node tries how much it can pass on to the end; going forward, so much comes to it; and going back again, what came to the
+// each node tries how much it can pass on to the end; going forward, at most so much comes to it; and going back again, what came to the
 // end is drawn from level to level. Each move is legal by its own least number, and settling brings all into balance again.
 use engine::settle::settle_on;
 use rooms::Rooms;
@@ -174,7 +174,7 @@ fn clear(come: &mut [u32; Rooms::SIDE], level: u64) {
     }
 }
 
-// Passes what has come to x on to the next level; or, where so much is to be tried, says how much of it x can pass on.
+// With `tried` above 0, says how much of it x can pass on; with 0, passes on what has come to x.
 fn visit(
     rooms: &mut [u32],
     ways: &mut [u64],
@@ -267,7 +267,7 @@ fn visit_all(
     }
 }
 
-// Brings of what lacks at a as much straight to b as can be passed on from a to b, and draws it through the levels back to a.
+// Brings of what lacks at a as much straight to b as came from a to b, and draws it through the levels back to a.
 fn pour(
     rooms: &mut [u32],
     ways: &mut [u64],
@@ -332,7 +332,7 @@ fn pour(
     );
 }
 
-// Floods the levels of a search from a, with b alone in the last: what can come through them from a to b, at most a number, is
+// Floods the levels of a search from a, with b alone in the last: some of what can come through them, at most a number, is
 // brought to b and straight back. As much is over at a as lacks there, and that is settled in the end.
 pub fn flood(
     rooms: &mut [u32],

@@ -196,7 +196,7 @@ pub fn widen(
     }
 }
 
-// Goes round by a flood. Where the direct room is no wider then, which was never seen, plain rounds make it wider, or show that
+// Goes round by a flood. Where the direct room is no wider then, which is not proved away, plain rounds make it wider, or show that
 // nothing can be brought round.
 fn go_far(
     rooms: &mut [u32],

@@ -136,7 +136,7 @@ fn deliver(
     }
 }
 
-// Settles with levels and a path that are lent for the search.
+// Settles, looked at backwards with `back`, with levels and a path that are lent for the search.
 pub fn settle_on(
     rooms: &mut [u32],
     ways: &mut [u64],
@@ -166,8 +166,8 @@ pub fn settle_on(
     }
 }
 
-// Moves what is over to where it lacks, until none of it gets there; with `back` against the rooms. Returns what it still
-// reaches.
+// Moves what is over to where it lacks, until none of it gets there; with `back` all is looked at backwards. Returns
+// what it still reaches.
 pub fn settle(
     rooms: &mut [u32],
     ways: &mut [u64],
