@@ -1,5 +1,7 @@
 // A lent list of arc structs, taken apart into the flat list that the requests read. It uses `plan` for how many
 // numbers an arc is and how many arcs a plan may have. Internal.
+#![tactic(auto)]
+
 ghost use Rattle.std.specs.Prelude.{◌≡◌, ◌+◌, ◌*◌, ◌<◌, length, get_or};
 ghost use Rattle.plan.specs.Limits.{arc_entries};
 ghost use Rattle.arcs.specs.Taken.{cut_at, placed, no_arc, taken_apart};

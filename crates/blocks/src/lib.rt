@@ -1,5 +1,7 @@
 // The verdict on a file's blocks, before any buffer is looked at: the numbers 11, 12, 13, 1, 2 and 14; 12, 13 and
 // a wrong content with the lowest block. It uses `format` for what stands where and `network` for the counts.
+#![tactic(auto)]
+
 ghost use Rattle.std.specs.Prelude.{◌≡◌, ◌≤◌, ◌<◌, ◌/◌, length};
 ghost use Rattle.plan.specs.Limits.{most_nodes, most_arcs};
 ghost use Rattle.plan.specs.Verdict.{Lowest, verdict};

@@ -1,6 +1,8 @@
 // The programs' side of the system: standard input read to its end, a text written to standard output, and a failure told
 // in one line on standard error. It uses the kit's `io` and `os`, and so it rests on the contracts of the C library's
 // `read` and `write`.
+#![tactic(auto)]
+
 ghost use Rattle.console.specs.Input.{Held};
 
 use libc::{STDIN_FILENO, STDOUT_FILENO};

@@ -1,5 +1,7 @@
 // The network of a counting plan of v variables and w values, drawn arc by arc and node by node. It uses `counting` for
 // what is drawn, `words` for the domains and `lists` for writing it down. Internal: its functions have `requires`.
+#![tactic(auto)]
+
 ghost use Rattle.std.specs.Prelude.{◌≡◌, cond, List, ℕ, ◌+◌, ◌*◌, ◌/◌, ◌≤◌, ◌<◌, ltb, pos, neg_ℤ, length, get_or};
 ghost use Rattle.numbers.specs.Sums.{only};
 ghost use Rattle.words.specs.Word.{holds};

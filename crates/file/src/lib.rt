@@ -1,6 +1,8 @@
 // The plan file: what reading and writing answer, and what they promise (specs/). proofs/ has the theorems that a network
 // has one file, that an accepted file is the file of its network, and that reading and writing go back and forth. It uses
 // `format`, `blocks` and `plan`.
+#![tactic(auto)]
+
 
 // What reading gives: the node count and the arc count, or a number of document 01 with its place.
 #[derive(Drop)]

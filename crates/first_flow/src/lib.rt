@@ -1,6 +1,8 @@
 // The first flow, arc by arc: each arc gets its smallest count once the arcs before it are held at
 // theirs, and is held there. One arc may be held at a count from the start. It uses `stand` for the plan in
 // the rooms and `one_arc` for each arc. Internal: its functions have `requires`.
+#![tactic(auto)]
+
 ghost use Rattle.std.specs.Prelude.{◌≡◌, false, ℕ, ◌≤◌, ◌<◌, ◌/◌, List, ℤ, length};
 ghost use Rattle.numbers.specs.Sums.{put};
 ghost use Rattle.rooms.specs.Room.{at, seen};

@@ -1,6 +1,8 @@
 // The format of a plan file: what stands where in the file of a network, and what the bytes of a file say (specs/).
 // `bytes` has numbers in bytes, `layout` how many blocks there are, what each says of itself, and its check. It uses
 // `plan`. Internal: most of its functions have `requires`.
+#![tactic(auto)]
+
 pub mod bytes;
 pub mod layout;
 
@@ -56,18 +58,18 @@ impl Block {
 
 // It does nothing: its contract says that the code's numbers are those of the definitions.
 pub fn numbers_agree()
-    ensures* head_kind { do ⌜ (← (⟦Edition::HEAD_KIND⟧).entry) ≡ first_edition.head_kind ⌝ }
-    ensures* arc_kind { do ⌜ (← (⟦Edition::ARC_KIND⟧).entry) ≡ first_edition.arc_kind ⌝ }
-    ensures* record_size { do ⌜ (← (⟦Edition::RECORD_SIZE⟧).entry) ≡ first_edition.record_size ⌝ }
-    ensures* block_arcs { do ⌜ (← (⟦Edition::BLOCK_ARCS⟧).entry) ≡ first_edition.block_arcs ⌝ }
-    ensures* longest { do ⌜ (← (⟦Edition::LONGEST⟧).entry) ≡ first_edition.longest ⌝ }
-    ensures* size { do ⌜ (← (⟦Block::SIZE⟧).entry) ≡ block_size ⌝ }
-    ensures* kind_at { do ⌜ (← (⟦Block::KIND_AT⟧).entry) ≡ kind-at ⌝ }
-    ensures* number_at { do ⌜ (← (⟦Block::NUMBER_AT⟧).entry) ≡ number-at ⌝ }
-    ensures* first_at { do ⌜ (← (⟦Block::FIRST_AT⟧).entry) ≡ first_at ⌝ }
-    ensures* second_at { do ⌜ (← (⟦Block::SECOND_AT⟧).entry) ≡ second-at ⌝ }
-    ensures* payload_at { do ⌜ (← (⟦Block::PAYLOAD_AT⟧).entry) ≡ payload_at ⌝ }
-    ensures* check_at { do ⌜ (← (⟦Block::CHECK_AT⟧).entry) ≡ check_at ⌝ }
-    ensures* check_modulus { do ⌜ (← (⟦Block::CHECK_MODULUS⟧).entry) ≡ check_modulus ⌝ }
-    ensures* supply_size { do ⌜ (← (⟦Block::SUPPLY_SIZE⟧).entry) ≡ supply_size ⌝ }
+    ensures head_kind { Edition.HEAD_KIND ≡ first_edition.head_kind }
+    ensures arc_kind { Edition.ARC_KIND ≡ first_edition.arc_kind }
+    ensures record_size { Edition.RECORD_SIZE ≡ first_edition.record_size }
+    ensures block_arcs { Edition.BLOCK_ARCS ≡ first_edition.block_arcs }
+    ensures longest { Edition.LONGEST ≡ first_edition.longest }
+    ensures size { Block.SIZE ≡ block_size }
+    ensures kind_at { Block.KIND_AT ≡ kind-at }
+    ensures number_at { Block.NUMBER_AT ≡ number-at }
+    ensures first_at { Block.FIRST_AT ≡ first_at }
+    ensures second_at { Block.SECOND_AT ≡ second-at }
+    ensures payload_at { Block.PAYLOAD_AT ≡ payload_at }
+    ensures check_at { Block.CHECK_AT ≡ check_at }
+    ensures check_modulus { Block.CHECK_MODULUS ≡ check_modulus }
+    ensures supply_size { Block.SUPPLY_SIZE ≡ supply_size }
 {}

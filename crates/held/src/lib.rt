@@ -1,5 +1,7 @@
 // One lane held at a count: the first flow among those with that count. It uses `plan` for what is meant
 // and `stand`, `one_arc` and `first_flow` for working it out.
+#![tactic(auto)]
+
 pub mod request;
 
 ghost use Rattle.std.specs.Prelude.{◌≡◌};

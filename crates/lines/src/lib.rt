@@ -1,6 +1,8 @@
 // The lines of a listing, printed on a page that is lent: of numbers, and of lists that are lent. Each function asks for room for
 // exactly what it prints, gives the place after it, and changes nothing else. It uses `text` for words and numbers, and `lists`
 // for an arc of a list. Internal.
+#![tactic(auto)]
+
 ghost use Rattle.std.specs.Prelude.{◌/◌, ◌≤◌, ◌<◌, length};
 ghost use Rattle.plan.specs.Limits.{arc_entries};
 ghost use Rattle.text.specs.Texts.{texts};

@@ -1,5 +1,7 @@
 // The listing of document 01: reads one plan file on standard input, and prints what the unit says of its plan.
 // A thin program: `reading` reads, `flow` and `narrow` answer, `say` prints.
+#![tactic(auto)]
+
 ghost use Rattle.std.specs.Prelude.{◌*◌, ◌/◌, ◌≤◌, ◌<◌, length};
 ghost use Rattle.plan.specs.Limits.{most_arcs, arc_entries};
 

@@ -2,6 +2,8 @@
 // entries, arcs or supplies of a lent list are these and the rest is as it was. proofs/ goes from none of them
 // to one more, and shows that there is one such content and that the entries written are the plan. It uses
 // `plan`. Internal.
+#![tactic(auto)]
+
 ghost use Rattle.std.specs.Prelude.{◌≡◌, ◌+◌, ◌*◌, ◌/◌, ◌<◌, length};
 ghost use Rattle.plan.specs.Limits.{arc_entries};
 ghost use Rattle.lists.specs.Written.{arc_in, ArcWritten};

@@ -1,6 +1,8 @@
 // The marks of a "no" or a reason, written to lent buffers. A "no" uses the bounds that a low end uses,
 // and leaves out no arc, so one loop marks for both. It uses `plan` for what is cited, `words` for the
 // set and `lists` for what is written. Internal: most of its functions have `requires`.
+#![tactic(auto)]
+
 ghost use Rattle.std.specs.Prelude.{◌≡◌, not, ◌&&◌, cond, ◌≤◌, ◌<◌, ◌/◌, eqb, length};
 ghost use Rattle.numbers.specs.Sums.{only};
 ghost use Rattle.words.specs.Word.{word_bits, holds};

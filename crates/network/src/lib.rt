@@ -1,5 +1,7 @@
 // The check of a network: the number and the lowest place by which document 01 turns it down. `plan` has the rules; the
 // lemmas of proofs/Wrong lead from what the code sees to them.
+#![tactic(auto)]
+
 ghost use Rattle.std.specs.Prelude.{◌≡◌, ◌||◌, ℕ, ◌/◌, ◌≤◌, ◌<◌, ltb, pos, nat_abs, length, get_or};
 ghost use Rattle.numbers.specs.Sums.{sumℤ};
 ghost use Rattle.plan.specs.Limits.{most_nodes, most_supply, arc_entries};

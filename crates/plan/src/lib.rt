@@ -1,5 +1,7 @@
 // The plan: its types with their limits. specs/ has document 01 as definitions; proofs/ has the theorems over them and the
 // table of worked plans. It uses `numbers`.
+#![tactic(auto)]
+
 ghost use Rattle.std.specs.Prelude.{◌≡◌, ◌/◌, pos, length};
 ghost use Rattle.plan.specs.Limits.{most_nodes, most_arcs, most_supply, widest_low, widest_high, arc_entries};
 
@@ -80,10 +82,10 @@ pub fn wide(x: u32) -> usize
 
 // It does nothing: its contract says that the code's limits are those of the definitions.
 pub fn limits_agree()
-    ensures* nodes { do ⌜ (← (⟦Plan::MOST_NODES⟧).entry) ≡ most_nodes ⌝ }
-    ensures* arcs { do ⌜ (← (⟦Plan::MOST_ARCS⟧).entry) ≡ most_arcs ⌝ }
-    ensures* supply { do ⌜ (← (⟦Plan::MOST_SUPPLY⟧).entry) ≡ pos most_supply ⌝ }
-    ensures* entries { do ⌜ (← (⟦Arc::ENTRIES⟧).entry) ≡ arc_entries ⌝ }
-    ensures* low { do ⌜ (← (⟦Arc::WIDEST_LOW⟧).entry) ≡ widest_low ⌝ }
-    ensures* high { do ⌜ (← (⟦Arc::WIDEST_HIGH⟧).entry) ≡ widest_high ⌝ }
+    ensures nodes { Plan.MOST_NODES ≡ most_nodes }
+    ensures arcs { Plan.MOST_ARCS ≡ most_arcs }
+    ensures supply { Plan.MOST_SUPPLY ≡ pos most_supply }
+    ensures entries { Arc.ENTRIES ≡ arc_entries }
+    ensures low { Arc.WIDEST_LOW ≡ widest_low }
+    ensures high { Arc.WIDEST_HIGH ≡ widest_high }
 {}

@@ -1,6 +1,8 @@
 // The search over words: level by level from a set of starts, with one direct step shut, and left as soon as a level meets
 // the goal; and the path back through the levels. It uses `ways` for where room leads, and `words` for sets of nodes.
 // Internal: its functions have `requires`.
+#![tactic(auto)]
+
 ghost use Rattle.std.specs.Prelude.{◌≡◌, true, not, ℕ, ◌+◌, ◌≤◌, ◌<◌, length};
 ghost use Rattle.words.specs.Word.{holds};
 ghost use Rattle.rooms.specs.Room.{side, at};

@@ -1,6 +1,8 @@
 // Reading a plan file, as document 01 has it, for every input; `payload` shows the part of a file that is one block's
 // content. It uses `blocks` and `network` for what turns a file down, `format` for what stands where, and `file` for
 // what is promised.
+#![tactic(auto)]
+
 mod filling;
 pub mod payload;
 

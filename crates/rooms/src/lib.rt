@@ -1,5 +1,7 @@
 // The rooms between nodes, in rows: how much can still move from one node to another (specs/Room); and a number at a
 // node that is made less or more. It uses `numbers`. Internal: most of its functions have `requires`.
+#![tactic(auto)]
+
 ghost use Rattle.std.specs.Prelude.{◌≡◌, ◌+◌, ◌*◌, ◌^◌, ◌≤◌, ◌<◌, length};
 ghost use Rattle.rooms.specs.Room.{side, cell, at, seen};
 ghost use Rattle.rooms.specs.Move.{Less};

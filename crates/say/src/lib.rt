@@ -1,5 +1,7 @@
 // What the programs print alike: text, numbers, and parts of an answer. It uses the kit's `io`, and so it rests on
 // the contract of the C library's `write`.
+#![tactic(auto)]
+
 use libc::STDOUT_FILENO;
 
 pub fn text(text: &[u8]) {

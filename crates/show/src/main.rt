@@ -5,6 +5,8 @@
 // arc held at some counts. Of a counting plan: the new domains and count ranges; or the shortfall, and what
 // the flow question says of its network. Of a plan file: its length, its check, how long the payloads of its
 // block and of one past it are, and the counts that are read back. It uses the requests and `say`.
+#![tactic(auto)]
+
 use count::request::{count, count_network};
 use file::Written;
 use flow::Answer;

@@ -1,5 +1,7 @@
 // A plan in the engine's rooms: how it stands there, and whether it balances. Internal: its functions have `requires`,
 // which the requests above meet. It uses `plan` for what is meant and `engine` for moving.
+#![tactic(auto)]
+
 pub mod ask;
 pub mod build;
 

@@ -1,6 +1,8 @@
 // Text on a page that is lent: words, numbers in decimal, and lines of them, printed from a place on. Each function asks for
 // room for exactly what it prints, gives the place after it, and changes nothing else. proofs/ has one text after another and
 // a row of texts as one lemma each, and that a number is read back from its digits. It uses the kit's `io` for the digits.
+#![tactic(auto)]
+
 ghost use Rattle.std.specs.Prelude.{[], ◌∷◌};
 ghost use Rattle.text.specs.Decimal.{decimal};
 ghost use Rattle.text.specs.Texts.{fields, line};

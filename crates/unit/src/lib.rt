@@ -2,6 +2,8 @@
 // `requests` has the exported functions over a flat list of arcs, `structs` those over a list of arc structs,
 // `countings` and `files` those over a counting plan and a plan file; `crossing` takes their answers across.
 // C passes a slice as a pointer and a length; include/blenrop.h declares what is exported.
+#![tactic(auto)]
+
 pub mod countings;
 pub mod files;
 pub mod requests;

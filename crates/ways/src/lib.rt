@@ -1,5 +1,7 @@
 // The rooms with words beside them of where they lead, kept up by every change of a room (specs/Ways). Only `put` writes;
 // what is moved, taken out or added goes through it. It uses `rooms` and `words`. Internal: its functions have `requires`.
+#![tactic(auto)]
+
 ghost use Rattle.std.specs.Prelude.{◌≡◌, false, ◌+◌, ◌^◌, ◌≤◌, ◌<◌, length};
 ghost use Rattle.rooms.specs.Room.{side, seen};
 ghost use Rattle.rooms.specs.Move.{Put, Pushed, Taken};

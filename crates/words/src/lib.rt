@@ -1,5 +1,7 @@
 // Words of 64 bits as sets of nodes or values (specs/Word). What each operation gives is said number by number. The empty
 // set is 0. It uses `numbers`. Internal: most of its functions have `requires`.
+#![tactic(auto)]
+
 ghost use Rattle.std.specs.Prelude.{◌≡◌, not, ◌&&◌, ◌||◌, ℕ, ◌≤◌, ◌<◌, eqb};
 ghost use Rattle.numbers.specs.Sums.{only};
 ghost use Rattle.words.specs.Word.{word_bits, holds, SplitOf};

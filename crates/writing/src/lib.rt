@@ -1,5 +1,7 @@
 // Writing the file of a network, byte by byte after the definition, for every input. It uses `format` for what stands
 // where, `network` for what turns a network down, and `file` for what is promised.
+#![tactic(auto)]
+
 ghost use Rattle.std.specs.Prelude.{◌≡◌, List, ℕ, ◌+◌, ◌*◌, ◌/◌, ◌≤◌, ◌<◌, length};
 ghost use Rattle.plan.specs.Limits.{arc_entries};
 ghost use Rattle.plan.specs.Plan.{Plan as Meant, WellFormed, plan_of};
