@@ -1,0 +1,15 @@
+-- One pass after the other keeps every account.
+use mathlib.Core.Path.{◌≡◌}
+use lib.ListN.{length}
+use Rattle.rooms.specs.Room.{at, seen}
+use Rattle.ways.specs.Ways.{Desk}
+use Rattle.across.specs.Flood.{Drawn}
+use Rattle.across.proofs.flood.pass_on.Given as goal
+
+abbrev pub invariant-loop-ahead : goal.invariant-loop-ahead
+invariant-loop-ahead l =
+    (length l.rooms ≡ length l.initial.rooms) × (length l.ways ≡ length l.initial.ways) × (length l.lack ≡ length l.initial.lack) × Desk l.n l.rooms l.ways
+    × Drawn l.n (seen l.initial.rooms l.back) (at l.initial.lack) (seen l.rooms l.back) (at l.lack)
+
+abbrev pub decreases-loop-ahead : goal.decreases-loop-ahead
+decreases-loop-ahead l = l.ahead
