@@ -7,7 +7,7 @@ pub mod bytes;
 pub mod layout;
 
 ghost use Rattle.std.specs.Prelude.{◌≡◌};
-ghost use Rattle.format.specs.Format.{first_edition, block_size, kind-at, number-at, first_at, second-at, payload_at, check_at, check_modulus, supply_size};
+ghost use Rattle.format.specs.Format.{first_edition, block_size, kind_at, number_at, first_at, second_at, payload_at, check_at, check_modulus, supply_size};
 
 // What a later edition of the file changes.
 #[derive(Drop)]
@@ -64,10 +64,10 @@ pub fn numbers_agree()
     ensures block_arcs { Edition.BLOCK_ARCS ≡ first_edition.block_arcs }
     ensures longest { Edition.LONGEST ≡ first_edition.longest }
     ensures size { Block.SIZE ≡ block_size }
-    ensures kind_at { Block.KIND_AT ≡ kind-at }
-    ensures number_at { Block.NUMBER_AT ≡ number-at }
+    ensures kind_at { Block.KIND_AT ≡ kind_at }
+    ensures number_at { Block.NUMBER_AT ≡ number_at }
     ensures first_at { Block.FIRST_AT ≡ first_at }
-    ensures second_at { Block.SECOND_AT ≡ second-at }
+    ensures second_at { Block.SECOND_AT ≡ second_at }
     ensures payload_at { Block.PAYLOAD_AT ≡ payload_at }
     ensures check_at { Block.CHECK_AT ≡ check_at }
     ensures check_modulus { Block.CHECK_MODULUS ≡ check_modulus }

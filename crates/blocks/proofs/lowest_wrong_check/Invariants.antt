@@ -1,0 +1,12 @@
+-- No block passed has a wrong check.
+use Prim.Native.Nat.{ℕ, ◌-◌, ◌≤◌, ◌<◌}
+use mathlib.Core.Path.{◌≡◌}
+use mathlib.Core.Bool.{false}
+use Rattle.blocks.specs.Rules.{blocks_in, check_wrong}
+use Rattle.blocks.proofs.lowest_wrong_check.Given as goal
+
+abbrev pub invariant-loop-b : goal.invariant-loop-b
+invariant-loop-b l = (l.b ≤ blocks_in l.file) × ((i : ℕ) → i < l.b → check_wrong l.file i ≡ false)
+
+abbrev pub decreases-loop-b : goal.decreases-loop-b
+decreases-loop-b l = blocks_in l.file - l.b
