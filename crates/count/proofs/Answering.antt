@@ -96,10 +96,10 @@ module _ (c : Counting) (b b' : Buffers) {lows highs lows' highs' : List ℕ} (r
 
 module _ (domains counts : List ℕ) (b : Buffers) (accepted : judged domains counts b ≡ Accepted) {lows highs lows' highs' : List ℕ} where
   -- narrowing answered other than that the network runs
-  pub left_early : (r : Answer) → OneOf (1 ∷ 2 ∷ []) (tag_of the_type r)
+  pub left_early : (r : Answer) → (r ≡ Runs → ⊥)
       → (network (counting_of domains counts)).arcs ≤ length lows → (network (counting_of domains counts)).arcs ≤ length highs
       → NarrowAnswers (network (counting_of domains counts)) lows highs lows' highs' r → CountAnswers domains counts b b r
-  left_early Runs other low_fits high_fits said = absurd (⊎_elim (λ e. omega arith) (λ e. omega arith) other)
+  left_early Runs other low_fits high_fits said = absurd (other refl)
   left_early (Short value) other low_fits high_fits said =
       record { says = (accepted, said.says.1.0, refl); domains_length = refl; lows_length = refl; highs_length = refl }
   left_early (Refused n i) other low_fits high_fits said =

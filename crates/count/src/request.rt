@@ -93,7 +93,7 @@ fn work_out(
     highs: &mut [u32],
 ) -> Answer
     requires { judged domains.now counts.now (record { domains = new_domains.old; lows = lows.old; highs = highs.old }) ≡ Accepted }
-    ensures { CountAnswers domains.entry.now counts.now (record { domains = new_domains.old; lows = lows.old; highs = highs.old }) (record { domains = new_domains.new; lows = lows.new; highs = highs.new }) result }
+    ensures { CountAnswers domains.now counts.now (record { domains = new_domains.old; lows = lows.old; highs = highs.old }) (record { domains = new_domains.new; lows = lows.new; highs = highs.new }) result }
 {
     let v = domains.len();
     let w = counts.len() / RANGE_ENTRIES;
@@ -130,7 +130,7 @@ pub fn count(
     lows: &mut [u32],
     highs: &mut [u32],
 ) -> Answer
-    ensures { CountAnswers domains.entry.now counts.now (record { domains = new_domains.old; lows = lows.old; highs = highs.old }) (record { domains = new_domains.new; lows = lows.new; highs = highs.new }) result }
+    ensures { CountAnswers domains.now counts.now (record { domains = new_domains.old; lows = lows.old; highs = highs.old }) (record { domains = new_domains.new; lows = lows.new; highs = highs.new }) result }
 {
     if let Verdict::Refused(number, index) = check(domains, counts) {
         return Answer::Refused(number, index);

@@ -27,7 +27,7 @@ impl Edition {
 
 // How a block begins and how far its content goes: kind, number, the two counts, and the byte at which
 // the content ends.
-#[derive(Drop)]
+#[derive(Clone, Copy)]
 pub struct Block {
     pub kind: u8,
     pub number: usize,

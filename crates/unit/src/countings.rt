@@ -16,7 +16,7 @@ pub extern "C" fn blenrop_count(
     new_lows: &mut [u32],
     new_highs: &mut [u32],
 ) -> Answer
-    ensures { Crosses flow_reading (CountAnswers domains.entry.now counts.now (record { domains = new_domains.old; lows = new_lows.old; highs = new_highs.old }) (record { domains = new_domains.new; lows = new_lows.new; highs = new_highs.new })) result }
+    ensures { Crosses flow_reading (CountAnswers domains.now counts.now (record { domains = new_domains.old; lows = new_lows.old; highs = new_highs.old }) (record { domains = new_domains.new; lows = new_lows.new; highs = new_highs.new })) result }
 {
     Answer::of_flow(count::request::count(domains, counts, new_domains, new_lows, new_highs))
 }
