@@ -1,4 +1,2 @@
-pub mod Room
 pub mod Taking
 pub mod Flat
-pub mod Entry

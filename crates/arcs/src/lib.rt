@@ -10,7 +10,7 @@ use plan::Plan;
 
 // An arc as C lends it: four numbers side by side.
 #[repr(C)]
-#[derive(Drop)]
+#[derive(Clone, Copy)]
 pub struct Arc {
     pub from: u32,
     pub to: u32,
