@@ -1,41 +1,43 @@
-// What the programs print alike: text, numbers, and parts of an answer. It uses the kit's `io`, and so it rests on
-// the contract of the C library's `write`.
+// What the programs print alike: text, numbers, and parts of an answer. It prints through the handle that it is given, and
+// a print that fails is answered as an error.
 #![tactic(auto)]
 
-use libc::STDOUT_FILENO;
+use std::io;
+use std::io::Print;
 
-pub fn text(text: &[u8]) {
-    io::write_all(STDOUT_FILENO, text);
+pub fn text<P: Print>(to: &P, text: &[u8]) -> io::Result<()> {
+    to.write_all(text)
 }
 
 // A space and the number.
-pub fn number(n: u64) {
-    text(b" ");
-    io::print_decimal(STDOUT_FILENO, n);
+pub fn number<P: Print>(to: &P, n: u64) -> io::Result<()> {
+    print!(to; " {n}")
 }
 
 // A shortfall is above 0.
-pub fn shortfall(value: i64) {
+pub fn shortfall<P: Print>(to: &P, value: i64) -> io::Result<()> {
     if 0 <= value {
-        number(value as u64);
+        number(to, value as u64)?;
     }
+    Ok(())
 }
 
 // The nodes that are marked 1.
-pub fn set(marks: &[u8]) {
+pub fn set<P: Print>(to: &P, marks: &[u8]) -> io::Result<()> {
     let mut v = 0;
     while v < marks.len() {
         if marks[v] == 1 {
-            number(v as u64);
+            number(to, v as u64)?;
         }
         v += 1;
     }
+    Ok(())
 }
 
 // The number and the place by which an input is turned down.
-pub fn refused(n: u32, place: usize) {
-    text(b"refused");
-    number(n as u64);
-    text(b" at");
-    number(place as u64);
+pub fn refused<P: Print>(to: &P, n: u32, place: usize) -> io::Result<()> {
+    text(to, b"refused")?;
+    number(to, n as u64)?;
+    text(to, b" at")?;
+    number(to, place as u64)
 }
