@@ -1,11 +1,11 @@
-// The programs' side of the system: standard input read to its end, a text written to standard output, and a failure told
-// in one line on standard error. It uses the kit's `io` and `os`, and so it rests on the contracts of the C library's
-// `read` and `write`.
+// The programs' side of the system: an input read to its end, a text written whole, and a failure told in one line. All goes
+// through the handles that are given, and so it rests on the contracts of std's `read` and `write`.
 #![tactic(auto)]
 
 ghost use Rattle.console.specs.Input.{Held};
 
-use libc::{STDIN_FILENO, STDOUT_FILENO};
+use std::io;
+use std::io::{Print, Read};
 
 // How many bytes of the buffer the input takes; or a read failed, and nothing counts as read.
 #[derive(Drop)]
@@ -14,19 +14,28 @@ pub enum Input {
     Failed,
 }
 
-// Standard input to its end, or until the buffer is full. A read that fails is told apart from the end of the input: it is
-// told on standard error, under the name given.
-pub fn read_whole(buffer: &mut [u8], what: &[u8]) -> Input
+// Tells a failure in one line, under the name given. Where that fails too, there is nobody left to tell.
+fn tell<E: Print>(told: &E, what: &str, error: io::Error) {
+    match println!(told; "{what}: {error}") {
+        Ok(()) => {}
+        Err(_) => {}
+    }
+}
+
+// The input to its end, or until the buffer is full. A read that fails is told apart from the end of the input: it is
+// told in a line, under the name given.
+pub fn read_whole<R: Read, E: Print>(from: &mut R, told: &E, buffer: &mut [u8], what: &str) -> Input
     ensures { Held result buffer.new }
 {
     let mut done = 0;
     while done < buffer.len() {
-        let got = libc::read(STDIN_FILENO, &mut buffer[done..]);
-        if got < 0 {
-            os::fail(what);
-            return Input::Failed;
-        }
-        let more = io::count(got, &buffer[done..]);
+        let more = match from.read(&mut buffer[done..]) {
+            Ok(more) => more,
+            Err(error) => {
+                tell(told, what, error);
+                return Input::Failed;
+            }
+        };
         if more == 0 {
             return Input::Whole(done);
         }
@@ -35,9 +44,9 @@ pub fn read_whole(buffer: &mut [u8], what: &[u8]) -> Input
     Input::Whole(done)
 }
 
-// All of the text to standard output; or what failed is told on standard error, under the name given.
-pub fn write_whole(text: &[u8], what: &[u8]) {
-    if !io::write_all(STDOUT_FILENO, text) {
-        os::fail(what);
+// All of the text; or what failed is told in a line, under the name given.
+pub fn write_whole<P: Print, E: Print>(to: &P, told: &E, text: &[u8], what: &str) {
+    if let Err(error) = to.write_all(text) {
+        tell(told, what, error);
     }
 }
