@@ -3,15 +3,13 @@
 use Prim.Native.Nat.{ℕ, ◌+◌, ◌*◌, ◌≤◌, ◌<◌}
 use mathlib.Core.Path.{◌≡◌, refl, sym, ◌∙◌}
 use mathlib.Core.Bool.{true, false}
-use mathlib.Core.List.{List, [], ◌∷◌}
-use mathlib.Core.Logic.{◌↔◌, ◌⊎◌, ⊎_elim}
+use mathlib.Core.List.{List}
+use mathlib.Core.Logic.{◌↔◌}
 use mathlib.Mathlib.Data.Bool.Basic.{and_elim_left, and_elim_right}
 use native.Mathlib.Omega.{arith}
 use lib.Dec.{ltb}
 use lib.ListN.{length}
 use borrow.Author.Tests.{ltb-true, ltb-false, lt-ltb}
-use types.Run.{OneOf}
-use denote.Enum.Declared.{tag_of}
 use Rattle.rooms.specs.Room.{at}
 use Rattle.plan.specs.Plan.{WellFormed}
 use Rattle.plan.specs.Flow.{Narrowed}
@@ -19,7 +17,6 @@ use Rattle.plan.specs.Verdict.{verdict}
 use Rattle.plan.specs.declared.Verdict.TheVariants.{Accepted}
 use Rattle.plan.proofs.Refusals.{last_accepted, neither}
 use Rattle.lists.specs.Written.{Written}
-use Rattle.flow.specs.contracts.Answer.{the_type}
 use Rattle.flow.specs.declared.Answer.{Answer}
 use Rattle.flow.specs.declared.Answer.TheVariants.{Runs, Short, Refused}
 use Rattle.narrow.specs.Answer.{Ranges, NarrowAnswers}

@@ -3,7 +3,6 @@
 // `format`, `blocks` and `plan`.
 #![tactic(auto)]
 
-
 // What reading gives: the node count and the arc count, or a number of document 01 with its place.
 #[derive(Drop)]
 pub enum Answer {

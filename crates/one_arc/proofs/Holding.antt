@@ -7,7 +7,7 @@ use mathlib.Core.Logic.{by_cases}
 use native.Mathlib.Omega.{arith}
 use native.Mathlib.Decide.{ℕ_discrete}
 use lib.Dec.{eqb}
-use lib.IntN.{ℤ, pos, ◌+ℤ◌}
+use lib.IntN.{pos, ◌+ℤ◌}
 use borrow.Author.Tests.{eq-eqb, ne_eqb}
 use Rattle.numbers.specs.Sums.{only, put}
 use Rattle.numbers.specs.Parts.{plus, minus}

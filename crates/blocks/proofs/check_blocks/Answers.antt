@@ -22,13 +22,13 @@ two-arcs-requires c =
 
 pub returns-in-Refused-check_counts : goal.returns-in-Refused-check_counts
 returns-in-Refused-check_counts c =
-    let file = c.args.file.now in 
+    let file = c.args.file.now in
     counts_turn_down first_edition file c.check_shape.ensures c.in_default.is
     (c.check_counts.ensures (held first_edition file) (sym c.two-nodes.ensures.0) (sym c.two-arcs.ensures.0)) c.in-Refused-check_counts.is
 
 pub check_content-requires : goal.check_content-requires
 check_content-requires c =
-    let file = c.args.file.now in 
+    let file = c.args.file.now in
     let shape = shape_accepted first_edition file (sym c.check_shape.ensures ∙ c.in_default.is) in
     let counts = counts_accepted (held first_edition file)
     (sym (c.check_counts.ensures (held first_edition file) (sym c.two-nodes.ensures.0) (sym c.two-arcs.ensures.0)) ∙ c.in_default-check_counts.is) in
@@ -36,7 +36,7 @@ check_content-requires c =
 
 pub returns : goal.returns
 returns c =
-    let file = c.args.file.now in 
+    let file = c.args.file.now in
     content_decides first_edition file c.check_shape.ensures c.in_default.is
     (c.check_counts.ensures (held first_edition file) (sym c.two-nodes.ensures.0) (sym c.two-arcs.ensures.0)) c.in_default-check_counts.is
     (rw (c.two-nodes.ensures.0, c.two-arcs.ensures.0) at c.check_content.ensures)

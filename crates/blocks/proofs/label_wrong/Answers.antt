@@ -6,10 +6,10 @@ use Rattle.blocks.proofs.label_wrong.Goals as goal
 
 pub returns-then-file-b : goal.returns-then-file-b
 returns-then-file-b c =
-    let a = c.args in 
+    let a = c.args in
     kind_differs first_edition a.file.now a.b (λ e. c.if-file-b.true (e ∙ sym c.kind_of.ensures))
 
 pub returns : goal.returns
 returns c =
-    let a = c.args in 
+    let a = c.args in
     rw c.wide.ensures.0 (number_decides first_edition a.file.now a.b (c.if-file-b.false ∙ c.kind_of.ensures))

@@ -1,10 +1,7 @@
 -- No block passed has a wrong content.
-use Prim.Native.Nat.{◌-◌}
 use mathlib.Core.Path.{sym, ◌∙◌}
-use mathlib.Core.Bool.{false}
 use borrow.Author.Count.{below_more}
 use native.Mathlib.Omega.{arith}
-use Rattle.blocks.specs.Rules.{content_wrong}
 use Rattle.blocks.proofs.lowest_wrong_content.Goals as goal
 
 pub loop-b-init : goal.loop-b-init
@@ -16,10 +13,10 @@ content_wrong-requires c = omega arith
 pub returns-then-content_wrong : goal.returns-then-content_wrong
 returns-then-content_wrong c =
     record {
-  within = omega arith;
-  before = c.loop-b.invariant.1;
-  there = λ l. sym c.content_wrong.ensures ∙ c.if-content_wrong.true;
-}
+      within = omega arith;
+      before = c.loop-b.invariant.1;
+      there = λ l. sym c.content_wrong.ensures ∙ c.if-content_wrong.true;
+    }
 
 pub loop-b-smaller : goal.loop-b-smaller
 loop-b-smaller c = omega arith
@@ -30,7 +27,7 @@ loop-b-preserved c = (omega arith, below_more _ _ c.loop-b.invariant.1 (sym c.co
 pub returns : goal.returns
 returns c =
     record {
-  within = c.loop-b.invariant.0;
-  before = c.loop-b.invariant.1;
-  there = λ l. absurd (omega arith);
-}
+      within = c.loop-b.invariant.0;
+      before = c.loop-b.invariant.1;
+      there = λ l. absurd (omega arith);
+    }

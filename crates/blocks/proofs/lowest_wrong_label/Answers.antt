@@ -1,10 +1,7 @@
 -- No block passed has a wrong label.
-use Prim.Native.Nat.{◌-◌}
 use mathlib.Core.Path.{sym, ◌∙◌}
-use mathlib.Core.Bool.{false}
 use borrow.Author.Count.{below_more}
 use native.Mathlib.Omega.{arith}
-use Rattle.blocks.specs.Rules.{label_wrong}
 use Rattle.blocks.proofs.lowest_wrong_label.Goals as goal
 
 pub loop-b-init : goal.loop-b-init
@@ -13,10 +10,10 @@ loop-b-init c = (omega arith, λ i l. absurd (omega arith))
 pub returns-then-label_wrong : goal.returns-then-label_wrong
 returns-then-label_wrong c =
     record {
-  within = omega arith;
-  before = c.loop-b.invariant.1;
-  there = λ l. sym c.label_wrong.ensures ∙ c.if-label_wrong.true;
-}
+      within = omega arith;
+      before = c.loop-b.invariant.1;
+      there = λ l. sym c.label_wrong.ensures ∙ c.if-label_wrong.true;
+    }
 
 pub loop-b-smaller : goal.loop-b-smaller
 loop-b-smaller c = omega arith
@@ -27,7 +24,7 @@ loop-b-preserved c = (omega arith, below_more _ _ c.loop-b.invariant.1 (sym c.la
 pub returns : goal.returns
 returns c =
     record {
-  within = c.loop-b.invariant.0;
-  before = c.loop-b.invariant.1;
-  there = λ l. absurd (omega arith);
-}
+      within = c.loop-b.invariant.0;
+      before = c.loop-b.invariant.1;
+      there = λ l. absurd (omega arith);
+    }

@@ -1,5 +1,5 @@
 -- The loop writes one arc a turn, from value j to the last node: one arc more of the network stands.
-use Prim.Native.Nat.{◌+◌, ◌-◌, ◌*◌}
+use Prim.Native.Nat.{◌+◌, ◌*◌}
 use mathlib.Core.Path.{◌≡◌, refl, ◌∙◌}
 use lib.ListN.{length}
 use native.Mathlib.Omega.{arith}
@@ -10,8 +10,7 @@ use Rattle.drawing.proofs.Drawing.{end_arc_is}
 use Rattle.drawing.proofs.draw_counts.Goals as goal
 
 pub loop-j-init : goal.loop-j-init
-loop-j-init c =
-    (
+loop-j-init c = (
   omega arith,
   refl,
   λ before drawn. rw (add-zero (length c.args.domains.now * c.args.w)) drawn,
@@ -34,10 +33,10 @@ loop-j-smaller c = omega arith
 
 pub loop-j-preserved : goal.loop-j-preserved
 loop-j-preserved c =
-    let a = c.args in 
+    let a = c.args in
     let c' = counting_of a.domains.now a.counts.now in
-    let inv = c.loop-j.invariant in 
-    let j = c.loop-j.j in 
+    let inv = c.loop-j.invariant in
+    let j = c.loop-j.j in
     let arc = end_arc_is c' a.w c.requires.size.0 j in
     let pairs = length a.domains.now * a.w in
     let next : pairs + (j + 1) ≡ pairs + j + 1 = omega arith in (

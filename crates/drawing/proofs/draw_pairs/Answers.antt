@@ -1,5 +1,5 @@
 -- Row after row of the network stands.
-use Prim.Native.Nat.{◌+◌, ◌-◌, ◌*◌}
+use Prim.Native.Nat.{◌+◌, ◌*◌}
 use mathlib.Core.Path.{◌≡◌, refl, ◌∙◌}
 use lib.ListN.{length}
 use native.Mathlib.Omega.{arith}
@@ -26,9 +26,9 @@ loop-i-smaller c = omega arith
 
 pub loop-i-preserved : goal.loop-i-preserved
 loop-i-preserved c =
-    let inv = c.loop-i.invariant in 
-    let w = c.args.w in 
-    let i = c.loop-i.i in 
+    let inv = c.loop-i.invariant in
+    let w = c.args.w in
+    let i = c.loop-i.i in
     let next : (i + 1) * w ≡ i * w + w = omega arith in
     (omega arith, c.draw_row.auto.arcs ∙ inv.1, rw next (c.draw_row.ensures c.args.arcs.now inv.2))
 

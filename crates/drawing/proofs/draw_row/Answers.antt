@@ -1,5 +1,5 @@
 -- The loop writes one arc a turn, from variable i to value j: one arc more of the network stands.
-use Prim.Native.Nat.{◌+◌, ◌-◌, ◌*◌}
+use Prim.Native.Nat.{◌+◌, ◌*◌}
 use mathlib.Core.Path.{◌≡◌, refl, ◌∙◌}
 use native.Mathlib.Omega.{arith}
 use Rattle.counting.specs.Counting.{counting_of}
@@ -10,8 +10,7 @@ use Rattle.drawing.proofs.Drawing.{pair_arc_is}
 use Rattle.drawing.proofs.draw_row.Goals as goal
 
 pub loop-j-init : goal.loop-j-init
-loop-j-init c =
-    (
+loop-j-init c = (
   omega arith,
   refl,
   λ before drawn. rw (add-zero (c.args.i * c.args.w)) drawn,
@@ -34,10 +33,10 @@ loop-j-smaller c = omega arith
 
 pub loop-j-preserved : goal.loop-j-preserved
 loop-j-preserved c =
-    let a = c.args in 
+    let a = c.args in
     let c' = counting_of a.domains.now a.counts.now in
-    let inv = c.loop-j.invariant in 
-    let j = c.loop-j.j in 
+    let inv = c.loop-j.invariant in
+    let j = c.loop-j.j in
     let arc = pair_arc_is c' a.w c.requires.size.0 a.i j c.requires.row c.loop-j-test.true in
     let next : a.i * a.w + (j + 1) ≡ a.i * a.w + j + 1 = omega arith in (
       omega arith,

@@ -1,5 +1,5 @@
 -- The loop writes one supply a turn.
-use Prim.Native.Nat.{◌+◌, ◌-◌}
+use Prim.Native.Nat.{◌+◌}
 use mathlib.Core.Path.{◌≡◌, refl, ◌∙◌}
 use native.Mathlib.Omega.{arith}
 use lib.ListN.{length-set}
@@ -22,7 +22,7 @@ loop-u-smaller c = omega arith
 
 pub loop-u-preserved : goal.loop-u-preserved
 loop-u-preserved c =
-    let inv = c.loop-u.invariant in 
+    let inv = c.loop-u.invariant in
     rw (to_z-of_z {w = w32} {z = c.supply_of.result} (record { sfits = c.supply_of.type_inv })) (
       omega arith,
       length-set c.loop-u.supplies c.loop-u.u c.supply_of.result ∙ inv.1,

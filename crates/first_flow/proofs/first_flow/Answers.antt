@@ -3,7 +3,7 @@ use Rattle.first_flow.proofs.Firsts.{first_begins, first_well_formed, first_goes
 use Rattle.rooms.specs.Room.{at}
 use lib.ListN.{length-set}
 use mathlib.Core.Path.{refl, ◌∙◌}
-use Prim.Native.Nat.{◌-◌, ◌≤◌}
+use Prim.Native.Nat.{◌≤◌}
 use native.Mathlib.Omega.{arith}
 use Rattle.first_flow.proofs.first_flow.Goals as goal
 
@@ -12,7 +12,7 @@ loop-i-init c = (omega arith, refl, refl, refl, c.requires.desk, λ p listed w y
 
 pub fix-requires : goal.fix-requires
 fix-requires c =
-    let inv = c.loop-i.invariant in 
+    let inv = c.loop-i.invariant in
     let (p, x) = c.requires.ready in
     let so_far = inv.5 p x.0 x.1 x.2 in record {
       desk = inv.4;
@@ -28,8 +28,7 @@ loop-i-smaller c = omega arith
 
 pub loop-i-preserved : goal.loop-i-preserved
 loop-i-preserved c =
-    let inv = c.loop-i.invariant in 
-    (
+    let inv = c.loop-i.invariant in (
       omega arith,
       length-set c.loop-i.counts c.loop-i.i c.fix.result ∙ inv.1,
       c.fix.auto.rooms ∙ inv.2,

@@ -1,5 +1,5 @@
 -- The loop goes by an arc a turn.
-use Prim.Native.Nat.{◌-◌, ◌/◌}
+use Prim.Native.Nat.{◌/◌}
 use mathlib.Core.Path.{◌≡◌}
 use lib.ListN.{length}
 use Rattle.text.proofs.Printing.{none_printed, next_printable, next_printed}

@@ -7,5 +7,5 @@ use Rattle.marks.proofs.mark_arcs.Goals as goal
 
 pub returns : goal.returns
 returns c =
-    let a = c.args in 
+    let a = c.args in
     written_alike (low_marks_before (plan_of a.arcs.now a.supplies.now) (holds a.set) _) c.mark_arcs_for.ensures

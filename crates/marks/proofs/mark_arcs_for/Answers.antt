@@ -1,5 +1,5 @@
 -- The loop writes one entry a turn: below j the entries are the marks of the arcs, and from j on they are as they were.
-use Prim.Native.Nat.{◌-◌, ◌/◌}
+use Prim.Native.Nat.{◌/◌}
 use mathlib.Core.Path.{◌≡◌}
 use lib.ListN.{length}
 use native.Mathlib.Omega.{arith}

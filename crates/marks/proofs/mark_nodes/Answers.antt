@@ -1,5 +1,4 @@
 -- The loop writes one entry a turn: below v the entries are the marks, and from v on they are as they were.
-use Prim.Native.Nat.{◌-◌}
 use mathlib.Core.Path.{◌≡◌}
 use native.Mathlib.Omega.{arith}
 use Rattle.lists.proofs.Entries.{entries_none, entries_on}

@@ -5,10 +5,10 @@ use Rattle.network.proofs.range_wrong.Goals as goal
 
 pub returns-then-high-arcs : goal.returns-then-high-arcs
 returns-then-high-arcs c =
-    let a = c.args in 
+    let a = c.args in
     range_crossed (plan_of a.arcs.now a.supplies.now) a.k c.if-high-arcs.true
 
 pub returns : goal.returns
 returns c =
-    let a = c.args in 
+    let a = c.args in
     range_too_high (plan_of a.arcs.now a.supplies.now) a.k c.if-high-arcs.false

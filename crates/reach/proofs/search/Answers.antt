@@ -2,9 +2,9 @@
 use mathlib.Core.Path.{◌≡◌, refl, ◌∙◌}
 use mathlib.Core.Bool.{true}
 use lib.ListN.{length-set}
-use Prim.Native.Nat.{ℕ, ◌+◌, ◌-◌, ◌<◌}
+use Prim.Native.Nat.{ℕ, ◌+◌, ◌<◌}
 use lib.Count.{count_trailing_zeros}
-use Rattle.rooms.specs.Room.{side, at}
+use Rattle.rooms.specs.Room.{side}
 use Rattle.words.specs.Word.{holds}
 use Rattle.words.proofs.Bits.{first_taken}
 use Rattle.reach.proofs.Layering.{seek_none, seek_more, seek_end, seek_met, seek_short}

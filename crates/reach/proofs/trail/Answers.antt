@@ -16,7 +16,7 @@ bounds-path-depth c = omega (arith, c.requires.whole)
 
 pub loop-i-init : goal.loop-i-init
 loop-i-init c =
-    let a = c.args in 
+    let a = c.args in
     let l : a.depth < length a.path.now = omega (arith, c.requires.whole) in (
       sym (get_or-set_same a.path.now a.depth c.take_first-y.result.first 0 l),
       omega arith,
@@ -33,13 +33,13 @@ bounds-levels-i c = omega (arith, c.requires.whole, c.loop-i.invariant.1)
 
 pub steps-requires : goal.steps-requires
 steps-requires c =
-    let w = c.loop-i.invariant in 
+    let w = c.loop-i.invariant in
     (c.requires.whole.0, rw w.0 (w.3.node c.loop-i.i (omega arith) w.1).0, c.requires.whole.2)
 
 pub take_first-y-requires-in-loop-i : goal.take_first-y-requires-in-loop-i
 take_first-y-requires-in-loop-i c =
-    let a = c.args in 
-    let w = c.loop-i.invariant in 
+    let a = c.args in
+    let w = c.loop-i.invariant in
     let same : c.loop-i.i - 1 + 1 ≡ c.loop-i.i = omega (arith, c.loop-i-test.true) in
     let n = w.3.node c.loop-i.i (omega arith) w.1 in
     way_back c.requires.layers.1 c.requires.turned (c.loop-i.i - 1) c.loop-i.y c.both-from.result c.steps.result
@@ -53,8 +53,8 @@ bounds-path-i c = omega (arith, c.requires.whole, c.loop-i.invariant.1, c.loop-i
 
 pub loop-i-preserved : goal.loop-i-preserved
 loop-i-preserved c =
-    let a = c.args in 
-    let w = c.loop-i.invariant in 
+    let a = c.args in
+    let w = c.loop-i.invariant in
     let l : c.loop-i.i - 1 < length c.loop-i.path = omega (arith, c.requires.whole, w.1, w.2 ∙ length-set a.path.now a.depth c.take_first-y.result.first) in (
       sym (get_or-set_same c.loop-i.path (c.loop-i.i - 1) c.take_first-y-in-loop-i.result.first 0 l),
       omega (arith, w.1),

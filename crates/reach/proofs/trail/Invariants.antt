@@ -1,7 +1,7 @@
 -- From a node of a level a step leads back to the level before: the path grows by it, down to the starts.
 use mathlib.Core.Path.{◌≡◌}
 use lib.ListN.{length}
-use Prim.Native.Nat.{◌-◌, ◌≤◌}
+use Prim.Native.Nat.{◌≤◌}
 use Rattle.rooms.specs.Room.{at}
 use Rattle.ways.specs.Ways.{leads}
 use Rattle.reach.proofs.Layering.{Walking}

@@ -19,11 +19,11 @@ check_limits-requires c = omega (arith, length-take-le c.args.nodes c.fill_suppl
 
 pub returns : goal.returns
 returns c =
-    let a = c.args in 
+    let a = c.args in
     let p = held first_edition a.file.now in
     let nodes : a.nodes ≡ p.nodes = c.requires.counts.0 in
     let count : a.count ≡ p.arcs = c.requires.counts.1 in
-    let lent = c.requires.lent in 
+    let lent = c.requires.lent in
     let supplies = rw nodes at c.fill_supplies.ensures in
     let arcs = rw count at c.fill_arcs.ensures in
     written_limits arcs supplies (omega (arith, count, lent, arcs.same_length)) (omega (arith, nodes, lent, supplies.same_length))

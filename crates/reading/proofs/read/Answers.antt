@@ -11,7 +11,7 @@ use Rattle.reading.proofs.read.Goals as goal
 
 pub returns-in-Refused : goal.returns-in-Refused
 returns-in-Refused c =
-    let a = c.args in 
+    let a = c.args in
     record { says = (blocks_turn_down first_edition a.file.now (lists_short (held first_edition a.file.now) a.supplies.now a.arcs.now) c.check_blocks.ensures c.in-Refused.is, refl, refl) }
 
 pub two-nodes-requires : goal.two-nodes-requires
@@ -26,7 +26,7 @@ two-count-requires c =
 
 pub returns-then-too_short : goal.returns-then-too_short
 returns-then-too_short c =
-    let a = c.args in 
+    let a = c.args in
     let p = held first_edition a.file.now in
     let lent = lists_told p a.supplies.now a.arcs.now c.two-nodes.ensures.0 c.two-count.ensures.0 c.too_short.ensures ∙ c.if-too_short.true in
     record { says = (buffers_turn_down first_edition a.file.now (lists_short p a.supplies.now a.arcs.now) c.check_blocks.ensures c.in_default.is lent, refl, refl) }
@@ -40,14 +40,14 @@ check_held-requires c =
 
 pub returns-in-Refused-check_held : goal.returns-in-Refused-check_held
 returns-in-Refused-check_held c =
-    let a = c.args in 
+    let a = c.args in
     let p = held first_edition a.file.now in
     let lent = lists_told p a.supplies.now a.arcs.now c.two-nodes.ensures.0 c.two-count.ensures.0 c.too_short.ensures ∙ c.if-too_short.false in
     record { says = (limits_decide first_edition a.file.now (lists_short p a.supplies.now a.arcs.now) c.check_blocks.ensures c.in_default.is lent (sym c.in-Refused-check_held.is ∙ c.check_held.ensures), refl, refl) }
 
 pub fill_supplies-requires : goal.fill_supplies-requires
 fill_supplies-requires c =
-    let a = c.args in 
+    let a = c.args in
     let p = held first_edition a.file.now in
     let sound = blocks_accepted first_edition a.file.now (sym c.check_blocks.ensures ∙ c.in_default.is) in
     let fits = lists_fit p a.supplies.now a.arcs.now (lists_told p a.supplies.now a.arcs.now c.two-nodes.ensures.0 c.two-count.ensures.0 c.too_short.ensures ∙ c.if-too_short.false) in
@@ -58,7 +58,7 @@ fill_supplies-requires c =
 
 pub fill_arcs-requires : goal.fill_arcs-requires
 fill_arcs-requires c =
-    let a = c.args in 
+    let a = c.args in
     let p = held first_edition a.file.now in
     let sound = blocks_accepted first_edition a.file.now (sym c.check_blocks.ensures ∙ c.in_default.is) in
     let fits = lists_fit p a.supplies.now a.arcs.now (lists_told p a.supplies.now a.arcs.now c.two-nodes.ensures.0 c.two-count.ensures.0 c.too_short.ensures ∙ c.if-too_short.false) in
@@ -69,7 +69,7 @@ fill_arcs-requires c =
 
 pub returns : goal.returns
 returns c =
-    let a = c.args in 
+    let a = c.args in
     let p = held first_edition a.file.now in
     let lent = lists_told p a.supplies.now a.arcs.now c.two-nodes.ensures.0 c.two-count.ensures.0 c.too_short.ensures ∙ c.if-too_short.false in
     record {

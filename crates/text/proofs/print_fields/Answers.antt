@@ -1,5 +1,4 @@
 -- The loop writes one field a turn.
-use Prim.Native.Nat.{◌-◌}
 use mathlib.Core.Path.{◌≡◌}
 use lib.ListN.{length}
 use native.Mathlib.Omega.{arith}

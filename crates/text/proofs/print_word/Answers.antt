@@ -1,5 +1,5 @@
 -- The loop writes one byte of the word a turn.
-use Prim.Native.Nat.{◌-◌, ◌<◌}
+use Prim.Native.Nat.{◌<◌}
 use mathlib.Core.Path.{◌≡◌}
 use lib.ListN.{length}
 use lib.Seq.{take-suc, take-length}
@@ -13,8 +13,8 @@ loop-i-init c = (omega arith, omega arith, nothing_printed)
 
 pub loop-i-preserved : goal.loop-i-preserved
 loop-i-preserved c =
-    let a = c.args in 
-    let here = c.loop-i in 
+    let a = c.args in
+    let here = c.loop-i in
     let more : here.i < length a.word.now = c.loop-i-test.true in (
       omega arith,
       omega (arith, c.print_byte-next.ensures.next_is, here.invariant.1),

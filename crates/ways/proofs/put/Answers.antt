@@ -9,7 +9,7 @@ use Rattle.ways.proofs.put.Goals as goal
 
 pub returns : goal.returns
 returns c =
-    let a = c.args in 
+    let a = c.args in
     let shows = put_shows a.rooms.now a.back a.x a.y a.room c.requires.nodes.0 c.requires.nodes.1
     (omega (arith, cell_bound a.back a.x a.y c.requires.nodes.0 c.requires.nodes.1, c.requires.ways.rooms_whole)) in
     rw c.place-cell.ensures.0 (record {

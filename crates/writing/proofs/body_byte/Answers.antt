@@ -9,7 +9,7 @@ use Rattle.writing.proofs.body_byte.Goals as goal
 
 pub returns-then-i-lt-PAYLOAD_AT : goal.returns-then-i-lt-PAYLOAD_AT
 returns-then-i-lt-PAYLOAD_AT c =
-    let a = c.args in 
+    let a = c.args in
     at_label first_edition (plan_of a.arcs.now a.supplies.now) a.b a.i c.if-i-lt-PAYLOAD_AT.true (rw c.requires.block.0 at c.packed.ensures)
 
 pub content_byte-requires : goal.content_byte-requires
@@ -22,12 +22,12 @@ content_byte-requires c =
 
 pub returns-then-i-block : goal.returns-then-i-block
 returns-then-i-block c =
-    let a = c.args in 
+    let a = c.args in
     let inside = rw (ap (λ x. x.end) c.requires.block.0) at c.if-i-block.true in
     c.content_byte.ensures ∙ sym (body_content first_edition (plan_of a.arcs.now a.supplies.now) a.b a.i c.if-i-lt-PAYLOAD_AT.false inside)
 
 pub returns : goal.returns
 returns c =
-    let a = c.args in 
+    let a = c.args in
     let past = rw (ap (λ x. x.end) c.requires.block.0) at c.if-i-block.false in
     sym (body_unused first_edition (plan_of a.arcs.now a.supplies.now) a.b a.i past)

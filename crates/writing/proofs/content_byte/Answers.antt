@@ -13,18 +13,18 @@ use Rattle.writing.proofs.content_byte.Goals as goal
 
 pub bounds-supplies-j : goal.bounds-supplies-j
 bounds-supplies-j c =
-    let a = c.args in 
+    let a = c.args in
     omega (arith, inside_head first_edition (length a.supplies.now) (length a.arcs.now / 4) a.b a.j c.requires.place.1 c.if-b-eq0.true)
 
 pub returns-then-b-eq0 : goal.returns-then-b-eq0
 returns-then-b-eq0 c =
-    let a = c.args in 
+    let a = c.args in
     let supply = get_or a.supplies.now (a.j / 4) (pos 0) in
     c.digit.ensures ∙ rw (c.unsigned-supply.ensures, to_z-of_z {w = w32} {z = supply} (record { sfits = c.unsigned-arg-1.given }), eq-eqb a.b 0 c.if-b-eq0.true)
 
 pub record_byte-requires : goal.record_byte-requires
 record_byte-requires c =
-    let a = c.args in 
+    let a = c.args in
     let inside = inside_arcs first_edition (length a.supplies.now) (length a.arcs.now / 4) a.b a.j c.requires.place.1 c.if-b-eq0.false in
     record {
       plan = c.requires.plan;

@@ -17,7 +17,7 @@ overflow_cast-high c = record { fits = omega (arith, c.shared_slice_known-5-1.gi
 
 pub packed-requires : goal.packed-requires
 packed-requires c =
-    let plan = c.requires.plan in 
-    let k = c.args.k in 
-    let here = c.requires.place.0 in 
+    let plan = c.requires.plan in
+    let k = c.args.k in
+    let here = c.requires.place.0 in
     (omega (arith, plan.from_node k here, plan.nodes_fit), omega (arith, plan.to_node k here, plan.nodes_fit), c.requires.place.1)

@@ -14,14 +14,14 @@ use Rattle.writing.proofs.write.Goals as goal
 
 pub returns-in-Refused : goal.returns-in-Refused
 returns-in-Refused c =
-    let a = c.args in 
+    let a = c.args in
     let p = plan_of a.arcs.now a.supplies.now in
     let blocks : c.blocks_of-blocks.result ≡ blocks_of first_edition p.arcs = c.blocks_of-blocks.ensures ∙ ap (blocks_of first_edition) c.of-size.ensures.1 in
     record { says = (sym (rw blocks at c.check.ensures) ∙ c.in-Refused.is, refl) }
 
 pub write_blocks-requires : goal.write_blocks-requires
 write_blocks-requires c =
-    let a = c.args in 
+    let a = c.args in
     let p = plan_of a.arcs.now a.supplies.now in
     let blocks : c.blocks_of-blocks.result ≡ blocks_of first_edition p.arcs = c.blocks_of-blocks.ensures ∙ ap (blocks_of first_edition) c.of-size.ensures.1 in
     let short = ltb (length a.file.now) (c.blocks_of-blocks.result * 512) in
@@ -34,7 +34,7 @@ write_blocks-requires c =
 
 pub returns : goal.returns
 returns c =
-    let a = c.args in 
+    let a = c.args in
     let p = plan_of a.arcs.now a.supplies.now in
     let blocks : c.blocks_of-blocks.result ≡ blocks_of first_edition p.arcs = c.blocks_of-blocks.ensures ∙ ap (blocks_of first_edition) c.of-size.ensures.1 in
     record { says = (sym (rw blocks at c.check.ensures) ∙ c.in_default.is, ap (λ n. n * 512) blocks, c.write_blocks.ensures) }

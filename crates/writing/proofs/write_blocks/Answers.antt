@@ -1,5 +1,5 @@
 -- Block after block of the network's file stands.
-use Prim.Native.Nat.{◌+◌, ◌-◌, ◌*◌}
+use Prim.Native.Nat.{◌+◌, ◌*◌}
 use mathlib.Core.Path.{◌≡◌, refl, ◌∙◌}
 use Rattle.plan.specs.Plan.{plan_of}
 use Rattle.lists.proofs.Entries.{entries_none}
@@ -11,7 +11,7 @@ loop-b-init c = (omega arith, refl, entries_none)
 
 pub loop-b-preserved : goal.loop-b-preserved
 loop-b-preserved c =
-    let a = c.args in 
+    let a = c.args in
     let inv = c.loop-b.invariant in (
       omega arith,
       c.write_check.auto.file ∙ c.write_body.auto.file ∙ inv.1,

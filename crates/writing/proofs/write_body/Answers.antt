@@ -1,5 +1,5 @@
 -- The loop writes one byte a turn.
-use Prim.Native.Nat.{◌+◌, ◌-◌, ◌*◌}
+use Prim.Native.Nat.{◌+◌, ◌*◌}
 use mathlib.Core.Path.{◌≡◌, refl, ◌∙◌}
 use lib.ListN.{length-set}
 use Rattle.plan.specs.Plan.{plan_of}
@@ -17,10 +17,10 @@ bounds-file-b c = omega (arith, c.loop-i.invariant.1, c.loop-i-test.true, c.requ
 
 pub loop-i-preserved : goal.loop-i-preserved
 loop-i-preserved c =
-    let a = c.args in 
+    let a = c.args in
     let p = plan_of a.arcs.now a.supplies.now in
-    let i = c.loop-i.i in 
-    let inv = c.loop-i.invariant in 
+    let i = c.loop-i.i in
+    let inv = c.loop-i.invariant in
     let next : a.b * 512 + (i + 1) ≡ a.b * 512 + i + 1 = omega arith in (
       omega arith,
       length-set c.loop-i.file (a.b * 512 + i) c.body_byte.result ∙ inv.1,

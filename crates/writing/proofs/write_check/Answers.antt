@@ -18,10 +18,10 @@ shape_of-file c = simp length-set
 pub returns : goal.returns
 returns c =
     λ p before filled.
-    let b = c.args.b in 
-    let file = c.args.file.now in 
+    let b = c.args.b in
+    let file = c.args.file.now in
     let at = b * 512 + 510 in
-    let low = c.digit.result in 
+    let low = c.digit.result in
     let same : c.check_of-check.result ≡ check_of (body_byte first_edition p b) =
     c.check_of-check.ensures ∙ check_same (byte file b) (body_byte first_edition p b) (λ i l. filled.there (place b i) (omega arith) ∙ body_at first_edition p b i l) in
     let next : (b + 1) * 512 + 0 ≡ at + 1 + 1 = omega arith in

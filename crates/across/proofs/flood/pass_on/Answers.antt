@@ -19,7 +19,7 @@ loop-ahead-smaller c = omega (arith, c.while_some-ahead-in-loop-ahead.ensures, c
 
 pub loop-ahead-preserved : goal.loop-ahead-preserved
 loop-ahead-preserved c =
-    let inv = c.loop-ahead.invariant in 
+    let inv = c.loop-ahead.invariant in
     (c.pass-stays.auto.rooms ∙ inv.0, c.pass-stays.auto.ways ∙ inv.1, c.pass-stays.auto.lack ∙ inv.2, c.pass-stays.ensures.desk, drawn_on inv.4 c.pass-stays.ensures.drawn)
 
 pub returns : goal.returns

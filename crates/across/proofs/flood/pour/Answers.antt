@@ -19,7 +19,7 @@ bounds-come-b c = omega (arith, c.requires.nodes.1)
 
 pub draw-requires : goal.draw-requires
 draw-requires c =
-    let nodes = c.requires.nodes in 
+    let nodes = c.requires.nodes in
     record {
       desk = c.visit_all-2.ensures.desk;
       nodes = (nodes.1, nodes.0, omega (arith, c.requires.lists.1, c.visit_all.auto.lack, c.visit_all-2.auto.lack));

@@ -1,6 +1,5 @@
 -- One level after the other keeps every account.
 use mathlib.Core.Path.{refl, ◌∙◌}
-use Prim.Native.Nat.{◌-◌}
 use Rattle.across.proofs.Flooding.{drawn_none, drawn_on}
 use native.Mathlib.Omega.{arith}
 use Rattle.across.proofs.flood.visit_all.Goals as goal
@@ -20,7 +19,7 @@ loop-turn-smaller c = omega arith
 
 pub loop-turn-preserved : goal.loop-turn-preserved
 loop-turn-preserved c =
-    let inv = c.loop-turn.invariant in 
+    let inv = c.loop-turn.invariant in
     (c.visit_level.auto.rooms ∙ inv.0, c.visit_level.auto.ways ∙ inv.1, c.visit_level.auto.lack ∙ inv.2, c.visit_level.ensures.desk, drawn_on inv.4 c.visit_level.ensures.drawn)
 
 pub returns : goal.returns

@@ -19,7 +19,7 @@ loop-rest-smaller c = c.take_first-split.ensures.less
 
 pub loop-rest-preserved : goal.loop-rest-preserved
 loop-rest-preserved c =
-    let inv = c.loop-rest.invariant in 
+    let inv = c.loop-rest.invariant in
     (c.visit.auto.rooms ∙ inv.0, c.visit.auto.ways ∙ inv.1, c.visit.auto.lack ∙ inv.2, c.visit.ensures.desk, drawn_on inv.4 c.visit.ensures.drawn)
 
 pub returns : goal.returns

@@ -15,7 +15,7 @@ take_room-requires c =
 
 pub take_room-requires-2 : goal.take_room-requires-2
 take_room-requires-2 c =
-    let a = c.args in 
+    let a = c.args in
     let la : a.a < side = omega (arith, c.requires.desk.fitting.few, c.requires.nodes.0) in
     let lb : a.b < side = omega (arith, c.requires.desk.fitting.few, c.requires.nodes.1) in
     record {
@@ -26,8 +26,8 @@ take_room-requires-2 c =
 
 pub returns : goal.returns
 returns c =
-    let nodes = c.requires.nodes in 
-    let t = c.take_room.ensures.taken in 
+    let nodes = c.requires.nodes in
+    let t = c.take_room.ensures.taken in
     record {
       desk = record { ways_show = c.take_room-2.ensures.ways; fitting = taken_fits (taken_fits c.make_room.ensures.desk.fitting t) c.take_room-2.ensures.taken };
       held = holds_out c.requires.desk.fitting.few nodes.0 nodes.1 nodes.2 c.make_room.ensures.made t c.take_room-2.ensures.taken;

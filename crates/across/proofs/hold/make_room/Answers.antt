@@ -24,7 +24,7 @@ returns-then-room_of-out c =
 
 pub widen-requires-2 : goal.widen-requires-2
 widen-requires-2 c =
-    let nodes = c.requires.nodes in 
+    let nodes = c.requires.nodes in
     record {
       desk = c.requires.desk;
       nodes = (nodes.1, nodes.0, λ e. nodes.2 (sym e));

@@ -19,16 +19,16 @@ returns-then-not-lap c =
 
 pub overflow_add-there : goal.overflow_add-there
 overflow_add-there c =
-    let a = c.args in 
-    let nodes = c.requires.nodes in 
+    let a = c.args in
+    let nodes = c.requires.nodes in
     let la : a.a < side = omega (arith, c.requires.desk.fitting.few, nodes.0) in
     let lb : a.b < side = omega (arith, c.requires.desk.fitting.few, nodes.1) in
     record { fits = omega (arith, c.requires.most.0, c.requires.most.1, c.room_of-there.ensures, (fitting_facing a.rooms.now a.back c.requires.desk.fitting).small a.b a.a lb la nodes.2) }
 
 pub widen-passage-requires : goal.widen-passage-requires
 widen-passage-requires c =
-    let a = c.args in 
-    let nodes = c.requires.nodes in 
+    let a = c.args in
+    let nodes = c.requires.nodes in
     let la : a.a < side = omega (arith, c.requires.desk.fitting.few, nodes.0) in
     let lb : a.b < side = omega (arith, c.requires.desk.fitting.few, nodes.1) in
     record {
@@ -39,7 +39,7 @@ widen-passage-requires c =
 
 pub returns : goal.returns
 returns c =
-    let nodes = c.requires.nodes in 
+    let nodes = c.requires.nodes in
     record {
       desk = c.widen-passage.ensures.desk;
       round = rw c.room_of-there.ensures (far_round nodes.0 nodes.1 c.go_round-lap.ensures.round.still (rw c.room_of-there.ensures at c.widen-passage.ensures.measured));

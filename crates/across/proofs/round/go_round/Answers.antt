@@ -10,7 +10,7 @@ use Rattle.across.proofs.round.go_round.Goals as goal
 
 pub way_round-way-requires : goal.way_round-way-requires
 way_round-way-requires c =
-    let few = c.requires.desk.fitting.few in 
+    let few = c.requires.desk.fitting.few in
     let nodes = c.requires.nodes in record {
       whole = (c.requires.desk.ways_show.ways_whole, omega arith, omega arith);
       nodes = (omega (arith, few, nodes.0), omega (arith, few, nodes.1), nodes.2);
@@ -43,7 +43,7 @@ returns-then-far c =
 
 pub turn-requires : goal.turn-requires
 turn-requires c =
-    let v = c.way_round-way.ensures in 
+    let v = c.way_round-way.ensures in
     record {
       desk = c.requires.desk;
       nodes = c.requires.nodes;

@@ -25,28 +25,28 @@ move_along-requires c =
 
 pub push-requires : goal.push-requires
 push-requires c =
-    let a = c.args in 
-    let few = c.requires.desk.fitting.few in 
-    let nodes = c.requires.nodes in 
-    let r = c.requires.path.1 in 
+    let a = c.args in
+    let few = c.requires.desk.fitting.few in
+    let nodes = c.requires.nodes in
+    let r = c.requires.path.1 in
     let m = c.move_along.ensures.moved a.n few r.track in
     let la : a.a < side = omega (arith, few, nodes.0) in
     let lb : a.b < side = omega (arith, few, nodes.1) in record {
       ways = c.move_along.ensures.ways;
       nodes = (lb, la, nodes.2);
       fits = (
-          omega (arith, c.least-d.ensures.at_most, c.requires.most.1, back_still few nodes.0 nodes.1 nodes.2 r m),
-          omega (arith, c.least-d.ensures.at_most, c.requires.most.1, there_still few nodes.0 nodes.1 nodes.2 r m, (fitting_facing a.rooms.now a.back c.requires.desk.fitting).small a.b a.a lb la nodes.2),
-        );
+        omega (arith, c.least-d.ensures.at_most, c.requires.most.1, back_still few nodes.0 nodes.1 nodes.2 r m),
+        omega (arith, c.least-d.ensures.at_most, c.requires.most.1, there_still few nodes.0 nodes.1 nodes.2 r m, (fitting_facing a.rooms.now a.back c.requires.desk.fitting).small a.b a.a lb la nodes.2),
+      );
     }
 
 pub returns : goal.returns
 returns c =
-    let a = c.args in 
-    let few = c.requires.desk.fitting.few in 
-    let nodes = c.requires.nodes in 
-    let r = c.requires.path.1 in 
-    let l = c.least-d.ensures in 
+    let a = c.args in
+    let few = c.requires.desk.fitting.few in
+    let nodes = c.requires.nodes in
+    let r = c.requires.path.1 in
+    let l = c.least-d.ensures in
     let t = turned_round few nodes.0 nodes.1 nodes.2 r (c.move_along.ensures.moved a.n few r.track) c.push.ensures.pushed (least_some l c.requires.most.0 r.rooms_there) a.most l.at_most in
     record {
       desk = desk_kept a.back c.requires.desk c.push.ensures.ways t.still.same;

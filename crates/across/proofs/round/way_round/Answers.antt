@@ -12,8 +12,8 @@ search-found-requires c = (c.requires.whole.0, λ l. c.requires.nodes.1, c.requi
 
 pub returns-then-met-eq0 : goal.returns-then-met-eq0
 returns-then-met-eq0 c =
-    let a = c.args in 
-    let nodes = c.requires.nodes in 
+    let a = c.args in
+    let nodes = c.requires.nodes in
     let s = c.search-found.ensures in (
       way_none (leads a.ways.now a.back) (leads a.ways.now (not a.back)) a.a a.b c.one-start.result c.but-goal.result nodes.0 nodes.1 nodes.2 c.requires.turned
           c.one-start.ensures (rw c.word_at.ensures.0 at c.but-goal.ensures) _ _ (s.all_reached c.if-met-eq0.true) (s.clear c.if-met-eq0.true),
@@ -22,7 +22,7 @@ returns-then-met-eq0 c =
 
 pub trail-requires : goal.trail-requires
 trail-requires c =
-    let nodes = c.requires.nodes in 
+    let nodes = c.requires.nodes in
     let s = c.search-found.ensures in record {
       whole = (c.requires.whole.0, λ l. nodes.1, λ l. nodes.0, omega (arith, c.requires.whole.1, c.search-found.auto.levels), omega (arith, c.requires.whole.2), s.depth_fits);
       turned = c.requires.turned;
@@ -41,9 +41,9 @@ bounds-path-last c = omega (arith, c.search-found.ensures.depth_fits, c.requires
 
 pub returns : goal.returns
 returns c =
-    let a = c.args in 
-    let nodes = c.requires.nodes in 
-    let s = c.search-found.ensures in 
+    let a = c.args in
+    let nodes = c.requires.nodes in
+    let s = c.search-found.ensures in
     let more : 0 < c.search-found.result.met = omega (arith, c.if-met-eq0.false) in (
       way_found (leads a.ways.now a.back) (leads a.ways.now (not a.back)) a.a a.b c.one-start.result c.but-goal.result nodes.0 nodes.1 nodes.2 c.requires.turned
           c.one-start.ensures (rw c.word_at.ensures.0 at c.but-goal.ensures) _ c.trail.new.path c.search-found.result.depth c.search-found.result.met

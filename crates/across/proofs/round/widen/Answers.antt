@@ -1,7 +1,7 @@
 -- Each round keeps the room out of every set and brings the direct room nearer to the width; left at the width, all of it is free, and
 -- left without a way, the direct room is.
 use mathlib.Core.Path.{refl, ◌∙◌}
-use Prim.Native.Nat.{◌-◌, ◌≤◌, ◌<◌}
+use Prim.Native.Nat.{◌≤◌, ◌<◌}
 use borrow.Author.Tests.{not-true, not-false}
 use Rattle.rooms.specs.Room.{side, seen}
 use Rattle.across.proofs.Rounds.{still_none, still_more, whole_free, stuck_free, still_free}
@@ -16,9 +16,9 @@ room_of-there-requires c = (c.loop-back.invariant.2.ways_show.rooms_whole, omega
 
 pub returns-then-width-there : goal.returns-then-width-there
 returns-then-width-there c =
-    let a = c.args in 
-    let nodes = c.requires.nodes in 
-    let inv = c.loop-back.invariant in 
+    let a = c.args in
+    let nodes = c.requires.nodes in
+    let inv = c.loop-back.invariant in
     let wide : a.width ≤ seen c.loop-back.rooms a.back a.a a.b = omega (arith, c.if-width-there.true, c.room_of-there.ensures) in
     rw c.whole.ensures (record {
       desk = inv.2;
@@ -28,8 +28,8 @@ returns-then-width-there c =
 
 pub go_round-lap-requires : goal.go_round-lap-requires
 go_round-lap-requires c =
-    let a = c.args in 
-    let inv = c.loop-back.invariant in 
+    let a = c.args in
+    let inv = c.loop-back.invariant in
     let la : a.a < side = omega (arith, c.requires.desk.fitting.few, c.requires.nodes.0) in
     let lb : a.b < side = omega (arith, c.requires.desk.fitting.few, c.requires.nodes.1) in record {
       desk = inv.2;
@@ -39,16 +39,16 @@ go_round-lap-requires c =
 
 pub returns-then-not-lap : goal.returns-then-not-lap
 returns-then-not-lap c =
-    let nodes = c.requires.nodes in 
-    let inv = c.loop-back.invariant in 
+    let nodes = c.requires.nodes in
+    let inv = c.loop-back.invariant in
     let no_way = not-true c.go_round-lap.result.turned c.if-not-lap.true in
     rw c.room_of-there.ensures (record {
       desk = c.go_round-lap.ensures.desk;
       measured = record {
-          still = still_more inv.3 c.go_round-lap.ensures.round.still;
-          amount = still_free inv.3 (stuck_free nodes.0 nodes.1 (omega (arith, c.if-width-there.false, c.room_of-there.ensures)) (c.go_round-lap.ensures.round.stuck no_way));
-          there = omega (arith, c.go_round-lap.ensures.round.unmoved no_way);
-        };
+        still = still_more inv.3 c.go_round-lap.ensures.round.still;
+        amount = still_free inv.3 (stuck_free nodes.0 nodes.1 (omega (arith, c.if-width-there.false, c.room_of-there.ensures)) (c.go_round-lap.ensures.round.stuck no_way));
+        there = omega (arith, c.go_round-lap.ensures.round.unmoved no_way);
+      };
       bound = λ m l w. omega (arith, c.go_round-lap.ensures.round.unmoved no_way, inv.4 m l w);
     })
 
@@ -57,8 +57,7 @@ loop-back-smaller c = omega (arith, c.go_round-lap.ensures.round.wider refl (not
 
 pub loop-back-preserved : goal.loop-back-preserved
 loop-back-preserved c =
-    let inv = c.loop-back.invariant in 
-    (
+    let inv = c.loop-back.invariant in (
       c.go_round-lap.auto.rooms ∙ inv.0,
       c.go_round-lap.auto.ways ∙ inv.1,
       c.go_round-lap.ensures.desk,

@@ -14,7 +14,7 @@ use Rattle.count.proofs.request.count_network.Goals as goal
 
 pub returns-in-Refused : goal.returns-in-Refused
 returns-in-Refused c =
-    let domains = c.args.domains.now in 
+    let domains = c.args.domains.now in
     let plan = counting_of c.args.domains.now c.args.counts.now in
     record {
       answer_is = last_refused (counting_rules domains plan) 3 (lists_short (network plan) c.args.supplies.now c.args.arcs.now) (sym c.check.ensures ∙ c.in-Refused.is);
@@ -43,7 +43,7 @@ overflow_add-v-3 c =
 
 pub returns-then-too_short : goal.returns-then-too_short
 returns-then-too_short c =
-    let domains = c.args.domains.now in 
+    let domains = c.args.domains.now in
     let plan = counting_of c.args.domains.now c.args.counts.now in
     record {
       answer_is = last_wrong (counting_rules domains plan) 3 (lists_short (network plan) c.args.supplies.now c.args.arcs.now) (sym c.check.ensures ∙ c.in_default.is) (sym c.too_short.ensures ∙ c.if-too_short.true);
@@ -67,7 +67,7 @@ draw_arcs-requires c =
 
 pub returns : goal.returns
 returns c =
-    let domains = c.args.domains.now in 
+    let domains = c.args.domains.now in
     let plan = counting_of c.args.domains.now c.args.counts.now in
     record {
       answer_is = last_passes (counting_rules domains plan) 3 (lists_short (network plan) c.args.supplies.now c.args.arcs.now) (sym c.check.ensures ∙ c.in_default.is) (sym c.too_short.ensures ∙ c.if-too_short.false);

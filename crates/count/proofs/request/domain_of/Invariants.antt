@@ -1,5 +1,5 @@
 -- The loop reads one value a turn, from the last one down.
-use Prim.Native.Nat.{◌-◌, ◌≤◌}
+use Prim.Native.Nat.{◌≤◌}
 use Rattle.count.proofs.Built.{Built}
 use Rattle.count.proofs.request.domain_of.Given as goal
 

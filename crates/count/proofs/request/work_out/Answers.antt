@@ -23,7 +23,7 @@ pub write_domains-requires : goal.write_domains-requires
 write_domains-requires c =
     let b : Buffers = record { domains = c.args.new_domains.now; lows = c.args.lows.now; highs = c.args.highs.now } in
     let fits = judged_network c.args.domains.now c.args.counts.now b c.requires in
-    let long = c.narrow_network-answer.auto.highs in 
+    let long = c.narrow_network-answer.auto.highs in
     (omega (arith, fits.arcs_fit, long), omega (arith, fits.nodes_fit), domains_fit c.args.domains.now c.args.counts.now b c.requires)
 
 pub overflow_mul-v : goal.overflow_mul-v
@@ -36,7 +36,7 @@ pub write_counts-requires : goal.write_counts-requires
 write_counts-requires c =
     let b : Buffers = record { domains = c.args.new_domains.now; lows = c.args.lows.now; highs = c.args.highs.now } in
     let fits = judged_network c.args.domains.now c.args.counts.now b c.requires in
-    let long = c.narrow_network-answer.auto.lows in 
+    let long = c.narrow_network-answer.auto.lows in
     (omega (arith, fits.arcs_fit, long), lows_fit c.args.domains.now c.args.counts.now b c.requires)
 
 pub overflow_mul-v-2 : goal.overflow_mul-v-2
@@ -49,7 +49,7 @@ pub write_counts-requires-2 : goal.write_counts-requires-2
 write_counts-requires-2 c =
     let b : Buffers = record { domains = c.args.new_domains.now; lows = c.args.lows.now; highs = c.args.highs.now } in
     let fits = judged_network c.args.domains.now c.args.counts.now b c.requires in
-    let long = c.narrow_network-answer.auto.highs in 
+    let long = c.narrow_network-answer.auto.highs in
     (omega (arith, fits.arcs_fit, long), highs_fit c.args.domains.now c.args.counts.now b c.requires)
 
 pub returns : goal.returns

@@ -1,7 +1,5 @@
 -- The loop writes one count a turn.
-use Prim.Native.Nat.{◌-◌}
 use mathlib.Core.Path.{◌≡◌, refl}
-use Rattle.rooms.specs.Room.{at}
 use Rattle.lists.proofs.Entries.{entries_none, entries_on}
 use Rattle.lists.proofs.Writing.{written}
 use native.Mathlib.Omega.{arith}
@@ -15,7 +13,7 @@ bounds-counts-j c = omega (arith, c.loop-j.invariant.1.same_length, c.requires.1
 
 pub loop-j-preserved : goal.loop-j-preserved
 loop-j-preserved c =
-    let inv = c.loop-j.invariant in 
+    let inv = c.loop-j.invariant in
     (omega arith, entries_on (omega (arith, inv.1.same_length, c.requires.1)) refl inv.1)
 
 pub shape_of-counts : goal.shape_of-counts

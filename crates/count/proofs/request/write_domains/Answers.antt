@@ -1,5 +1,4 @@
 -- The loop writes one word a turn.
-use Prim.Native.Nat.{◌-◌}
 use mathlib.Core.Path.{◌≡◌}
 use Rattle.lists.proofs.Entries.{entries_none, entry_holds}
 use Rattle.counting.proofs.Grid.{row_within}
@@ -23,7 +22,7 @@ loop-i-smaller c = omega arith
 
 pub loop-i-preserved : goal.loop-i-preserved
 loop-i-preserved c =
-    let inv = c.loop-i.invariant in 
+    let inv = c.loop-i.invariant in
     (omega arith, entry_holds c.domain_of.result (omega (arith, inv.1.same_length, c.requires.2)) c.domain_of.ensures inv.1)
 
 pub shape_of-domains : goal.shape_of-domains

@@ -5,10 +5,10 @@ use Rattle.counting.proofs.check.count_wrong.Goals as goal
 
 pub returns-then-high-counts : goal.returns-then-high-counts
 returns-then-high-counts c =
-    let a = c.args in 
+    let a = c.args in
     count_crossed (counting_of a.domains.now a.counts.now) a.j c.if-high-counts.true
 
 pub returns : goal.returns
 returns c =
-    let a = c.args in 
+    let a = c.args in
     count_too_high (counting_of a.domains.now a.counts.now) a.j c.if-high-counts.false

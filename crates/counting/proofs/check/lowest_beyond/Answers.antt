@@ -1,7 +1,5 @@
 -- No variable passed names a value past w.
-use Prim.Native.Nat.{◌-◌}
 use mathlib.Core.Path.{sym, ◌∙◌}
-use mathlib.Core.Bool.{false}
 use borrow.Author.Count.{below_more}
 use native.Mathlib.Omega.{arith}
 use Rattle.counting.proofs.check.lowest_beyond.Goals as goal
@@ -12,10 +10,10 @@ loop-i-init c = (omega arith, λ k l. absurd (omega arith))
 pub returns-then-beyond : goal.returns-then-beyond
 returns-then-beyond c =
     record {
-  within = omega arith;
-  before = c.loop-i.invariant.1;
-  there = λ l. sym c.beyond.ensures ∙ c.if-beyond.true;
-}
+      within = omega arith;
+      before = c.loop-i.invariant.1;
+      there = λ l. sym c.beyond.ensures ∙ c.if-beyond.true;
+    }
 
 pub loop-i-preserved : goal.loop-i-preserved
 loop-i-preserved c = (omega arith, below_more _ _ c.loop-i.invariant.1 (sym c.beyond.ensures ∙ c.if-beyond.false))
@@ -23,7 +21,7 @@ loop-i-preserved c = (omega arith, below_more _ _ c.loop-i.invariant.1 (sym c.be
 pub returns : goal.returns
 returns c =
     record {
-  within = c.loop-i.invariant.0;
-  before = c.loop-i.invariant.1;
-  there = λ l. absurd (omega arith);
-}
+      within = c.loop-i.invariant.0;
+      before = c.loop-i.invariant.1;
+      there = λ l. absurd (omega arith);
+    }

@@ -1,9 +1,6 @@
 -- No value passed has a wrong count range.
-use Prim.Native.Nat.{◌-◌}
 use mathlib.Core.Path.{sym, ◌∙◌}
-use mathlib.Core.Bool.{false}
 use borrow.Author.Count.{below_more}
-use Rattle.counting.specs.Rules.{count_wrong}
 use native.Mathlib.Omega.{arith}
 use Rattle.counting.proofs.check.lowest_wrong_count.Goals as goal
 
@@ -13,10 +10,10 @@ loop-j-init c = (omega arith, λ i l. absurd (omega arith))
 pub returns-then-count_wrong : goal.returns-then-count_wrong
 returns-then-count_wrong c =
     record {
-  within = omega arith;
-  before = c.loop-j.invariant.1;
-  there = λ l. sym c.count_wrong.ensures ∙ c.if-count_wrong.true;
-}
+      within = omega arith;
+      before = c.loop-j.invariant.1;
+      there = λ l. sym c.count_wrong.ensures ∙ c.if-count_wrong.true;
+    }
 
 pub loop-j-preserved : goal.loop-j-preserved
 loop-j-preserved c = (omega arith, below_more _ _ c.loop-j.invariant.1 (sym c.count_wrong.ensures ∙ c.if-count_wrong.false))
@@ -24,7 +21,7 @@ loop-j-preserved c = (omega arith, below_more _ _ c.loop-j.invariant.1 (sym c.co
 pub returns : goal.returns
 returns c =
     record {
-  within = c.loop-j.invariant.0;
-  before = c.loop-j.invariant.1;
-  there = λ l. absurd (omega arith);
-}
+      within = c.loop-j.invariant.0;
+      before = c.loop-j.invariant.1;
+      there = λ l. absurd (omega arith);
+    }

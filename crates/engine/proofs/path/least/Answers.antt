@@ -1,7 +1,6 @@
 -- The least room of the steps so far, step by step.
 use mathlib.Core.Path.{◌≡◌}
-use Prim.Native.Nat.{◌+◌, ◌-◌}
-use Rattle.rooms.specs.Room.{at}
+use Prim.Native.Nat.{◌+◌}
 use Rattle.engine.proofs.Moving.{least_none, least_more}
 use native.Mathlib.Omega.{arith}
 use Rattle.engine.proofs.path.least.Goals as goal

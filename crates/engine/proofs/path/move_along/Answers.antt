@@ -1,6 +1,6 @@
 -- One push after the other; the rooms ahead are as they were, since no node comes twice.
 use mathlib.Core.Path.{◌≡◌, refl, ◌∙◌}
-use Prim.Native.Nat.{◌+◌, ◌-◌, ◌≤◌, ◌<◌}
+use Prim.Native.Nat.{◌+◌, ◌≤◌, ◌<◌}
 use Rattle.rooms.specs.Room.{side, at, seen}
 use Rattle.engine.proofs.Moving.{moved_none, moved_more, ahead}
 use native.Mathlib.Omega.{arith}
@@ -17,9 +17,9 @@ overflow_cast-y c = let p = c.requires.path.1 in record { fits = omega (arith, p
 
 pub push-requires : goal.push-requires
 push-requires c =
-    let a = c.args in 
-    let p = c.requires.path.1 in 
-    let l = c.loop-i-test.true in 
+    let a = c.args in
+    let p = c.requires.path.1 in
+    let l = c.loop-i-test.true in
     let m = c.loop-i.invariant.4 p.0 p.1.0 p.1.1 in
     let x = at a.path.now c.loop-i.i in
     let y = at a.path.now (c.loop-i.i + 1) in
@@ -35,8 +35,7 @@ push-requires c =
 
 pub loop-i-preserved : goal.loop-i-preserved
 loop-i-preserved c =
-    let inv = c.loop-i.invariant in 
-    (
+    let inv = c.loop-i.invariant in (
       omega arith,
       c.push.auto.rooms ∙ inv.1,
       c.push.auto.ways ∙ inv.2,

@@ -48,15 +48,15 @@ spend-lacks-requires c = (omega (arith, c.requires.path.track.node c.args.depth 
 
 pub returns : goal.returns
 returns c =
-    let a = c.args in 
-    let p = c.requires.path in 
-    let few = c.requires.desk.fitting.few in 
+    let a = c.args in
+    let p = c.requires.path in
+    let few = c.requires.desk.fitting.few in
     let moved = c.move_along.ensures.moved a.n few p.track in record {
       desk = desk_kept a.back c.requires.desk c.move_along.ensures.ways moved.same;
       delivered = delivered a.n (at a.over.now) (at a.under.now) _ _ (at a.path.now) few p.track moved
-            c.spend-left.ensures.less c.spend-lacks.ensures.less (least_some c.least-d.ensures (c.lesser.ensures.2 p.some_over p.some_under) p.rooms_there);
+          c.spend-left.ensures.less c.spend-lacks.ensures.less (least_some c.least-d.ensures (c.lesser.ensures.2 p.some_over p.some_under) p.rooms_there);
       shown = (
-          c.spend-left.ensures.shows a.n c.requires.shown.0 (p.track.node 0 (omega arith)),
-          c.spend-lacks.ensures.shows a.n c.requires.shown.1 (p.track.node a.depth (omega arith)),
-        );
+        c.spend-left.ensures.shows a.n c.requires.shown.0 (p.track.node 0 (omega arith)),
+        c.spend-lacks.ensures.shows a.n c.requires.shown.1 (p.track.node a.depth (omega arith)),
+      );
     }

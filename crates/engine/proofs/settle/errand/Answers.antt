@@ -10,7 +10,7 @@ search-sought-requires c = (c.requires.whole.0, λ l. l, c.requires.whole.1)
 
 pub returns-then-met-eq0 : goal.returns-then-met-eq0
 returns-then-met-eq0 c =
-    let s = c.search-sought.ensures in 
+    let s = c.search-sought.ensures in
     record {
       fits = s.depth_fits;
       way_there = λ e. absurd (false≢true e);
@@ -29,7 +29,7 @@ trail-requires c =
 
 pub returns : goal.returns
 returns c =
-    let s = c.search-sought.ensures in 
+    let s = c.search-sought.ensures in
     record {
       fits = s.depth_fits;
       way_there = λ e. (_, c.search-sought.result.met, c.trail.ensures c.args.spare s.layers, λ y h. (met_there s y h).1);

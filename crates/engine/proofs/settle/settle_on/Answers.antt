@@ -17,7 +17,7 @@ loop-way-init c = (refl, refl, refl, refl, refl, refl, c.requires.desk, kept_sam
 
 pub errand-way-requires : goal.errand-way-requires
 errand-way-requires c =
-    let inv = c.loop-way.invariant in 
+    let inv = c.loop-way.invariant in
     record {
       whole = (inv.6.ways_show.ways_whole, omega (arith, inv.4, c.requires.lists.2), omega (arith, inv.5, c.requires.lists.3));
       turned = ways_turned inv.6.ways_show c.args.back;
@@ -25,7 +25,7 @@ errand-way-requires c =
 
 pub returns-then-not-way : goal.returns-then-not-way
 returns-then-not-way c =
-    let inv = c.loop-way.invariant in 
+    let inv = c.loop-way.invariant in
     let e = errand_none c.args.back inv.6 inv.8 inv.9 c.errand-way.ensures (not-true c.errand-way.result.found c.if-not-way.true) in
     record {
       desk = inv.6;
@@ -34,7 +34,7 @@ returns-then-not-way c =
 
 pub deliver-ends-requires : goal.deliver-ends-requires
 deliver-ends-requires c =
-    let inv = c.loop-way.invariant in 
+    let inv = c.loop-way.invariant in
     let e = c.errand-way.ensures in record {
       desk = inv.6;
       lists = (omega (arith, inv.2, c.requires.lists.0), omega (arith, inv.3, c.requires.lists.1), omega (arith, inv.5, c.requires.lists.3, e.fits, c.errand-way.auto.path));
@@ -47,8 +47,7 @@ loop-way-smaller c = c.deliver-ends.ensures.delivered.falls
 
 pub loop-way-preserved : goal.loop-way-preserved
 loop-way-preserved c =
-    let inv = c.loop-way.invariant in 
-    (
+    let inv = c.loop-way.invariant in (
       c.deliver-ends.auto.rooms ∙ inv.0,
       c.deliver-ends.auto.ways ∙ inv.1,
       c.deliver-ends.auto.over ∙ inv.2,

@@ -1,9 +1,7 @@
 -- The set of the nodes looked at that have some.
 use mathlib.Core.Path.{◌≡◌}
-use Prim.Native.Nat.{◌-◌}
-use mathlib.Core.Logic.{⊎_elim}
 use Rattle.rooms.specs.Room.{at}
-use Rattle.engine.proofs.Settling.{shows_none, shows_in, shows_out}
+use Rattle.engine.proofs.Settling.{shows_none}
 use native.Mathlib.Omega.{arith}
 use Rattle.engine.proofs.settle.word_of.Goals as goal
 

@@ -7,7 +7,7 @@ use Rattle.flow.proofs.question.question.Goals as goal
 
 pub returns-in-Refused : goal.returns-in-Refused
 returns-in-Refused c =
-    let a = c.args in 
+    let a = c.args in
     let p = plan_of a.arcs.now a.supplies.now in
     record {
       says = (checked_verdict p a.arc_buffer.now a.node_buffer.now c.of-size.ensures.1 c.of-size.ensures.0 c.too_short-short.ensures c.check-verdict.ensures ∙ c.in-Refused.is, refl, refl);
@@ -17,7 +17,7 @@ returns-in-Refused c =
 
 pub work_out-requires : goal.work_out-requires
 work_out-requires c =
-    let a = c.args in 
+    let a = c.args in
     let p = plan_of a.arcs.now a.supplies.now in
     let accepted = checked_verdict p a.arc_buffer.now a.node_buffer.now c.of-size.ensures.1 c.of-size.ensures.0 c.too_short-short.ensures c.check-verdict.ensures ∙ c.in_default.is in
     let arcs = a.arc_buffer.now in
@@ -29,7 +29,7 @@ work_out-requires c =
 
 pub returns : goal.returns
 returns c =
-    let a = c.args in 
+    let a = c.args in
     let p = plan_of a.arcs.now a.supplies.now in
     let accepted = checked_verdict p a.arc_buffer.now a.node_buffer.now c.of-size.ensures.1 c.of-size.ensures.0 c.too_short-short.ensures c.check-verdict.ensures ∙ c.in_default.is in
     rw c.to.ensures (record {

@@ -5,14 +5,13 @@ use mir.Syntax.{w64}
 use Rattle.plan.specs.Plan.{plan_of}
 use Rattle.first_flow.proofs.Firsts.{listed_whole}
 use borrow.Author.Rules.{rules}
-use native.Mathlib.Omega.{arith}
 use Rattle.flow.proofs.question.work_out_on.Goals as goal
 
 pub first_flow-requires : goal.first_flow-requires
 first_flow-requires c =
     let on = c.ask-outcome.ensures.balances c.in_default.is in
-    let arcs = c.args.arcs.now in 
-    let supplies = c.args.supplies.now in 
+    let arcs = c.args.arcs.now in
+    let supplies = c.args.supplies.now in
     record {
       desk = on.desk;
       whole = c.requires.whole.0;
@@ -21,7 +20,7 @@ first_flow-requires c =
 
 pub returns-in_default : goal.returns-in_default
 returns-in_default c =
-    let arcs = c.args.arcs.now in 
+    let arcs = c.args.arcs.now in
     let supplies = c.args.supplies.now in (
       record {
         first = c.first_flow.ensures.first (plan_of arcs supplies) (listed_whole arcs supplies 0) c.requires.desk.plan (c.ask-outcome.ensures.balances c.in_default.is).ready;

@@ -1,6 +1,6 @@
 -- The sum so far is the weighted sum of the bytes passed, and at most 510 times 255 for each.
 use Rattle.format.specs.Format.{check_modulus}
-use Prim.Native.Nat.{◌-◌, ◌%◌}
+use Prim.Native.Nat.{◌%◌}
 use mathlib.Core.Path.{◌≡◌, sym, ap}
 use Rattle.format.specs.Format.{check_at, weighted}
 use Rattle.format.specs.Held.{byte}
@@ -19,7 +19,7 @@ overflow_add-sum-in-loop-i c = record { fits = omega (arith, term_small c.loop-i
 
 pub loop-i-preserved : goal.loop-i-preserved
 loop-i-preserved c =
-    let i = c.loop-i.i in 
+    let i = c.loop-i.i in
     let at = byte c.args.file.now c.args.b in (
       omega arith,
       rw (c.wide.ensures.0, c.loop-i.invariant.1) (sym (weighted_more at i)),

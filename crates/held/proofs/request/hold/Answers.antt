@@ -6,19 +6,19 @@ use Rattle.held.proofs.request.hold.Goals as goal
 
 pub returns-in-Refused : goal.returns-in-Refused
 returns-in-Refused c =
-    let a = c.args in 
+    let a = c.args in
     let p = plan_of a.arcs.now a.supplies.now in
     record { says = (request_verdict p a.arc a.arc_buffer.now c.of-size.ensures.1 c.check_asked-verdict.ensures ∙ c.in-Refused.is, refl); arcs_length = refl }
 
 pub work_out-requires : goal.work_out-requires
 work_out-requires c =
-    let a = c.args in 
+    let a = c.args in
     let p = plan_of a.arcs.now a.supplies.now in
     let all = request_accepted p a.arc a.arc_buffer.now (request_verdict p a.arc a.arc_buffer.now c.of-size.ensures.1 c.check_asked-verdict.ensures ∙ c.in_default.is) in record { plan = all.0; arc = all.1.0; whole = all.1.1 }
 
 pub returns : goal.returns
 returns c =
-    let a = c.args in 
+    let a = c.args in
     let p = plan_of a.arcs.now a.supplies.now in
     record {
       says = told_says p a.arc a.count a.arc_buffer.now c.work_out.new.arc_buffer c.work_out.result (request_verdict p a.arc a.arc_buffer.now c.of-size.ensures.1 c.check_asked-verdict.ensures ∙ c.in_default.is) c.work_out.ensures;

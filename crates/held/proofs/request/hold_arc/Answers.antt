@@ -8,7 +8,7 @@ arc_at-arc-requires c = c.requires.arc
 
 pub hold_at-requires : goal.hold_at-requires
 hold_at-requires c =
-    let a = c.args in 
+    let a = c.args in
     let p = plan_of a.arcs.now a.supplies.now in
     record {
       desk = c.requires.ready.desk;
@@ -17,7 +17,7 @@ hold_at-requires c =
 
 pub returns : goal.returns
 returns c =
-    let a = c.args in 
+    let a = c.args in
     let p = plan_of a.arcs.now a.supplies.now in
     record {
       desk = c.hold_at.ensures.desk;

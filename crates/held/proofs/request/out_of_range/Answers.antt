@@ -13,10 +13,10 @@ end_for-high-requires c =
 
 pub returns : goal.returns
 returns c =
-    let a = c.args in 
+    let a = c.args in
     let p = plan_of a.arcs.now a.supplies.now in
-    let low = c.end_for-low.ensures.end in 
-    let high = c.end_for-high.ensures.end in 
+    let low = c.end_for-low.ensures.end in
+    let high = c.end_for-high.ensures.end in
     let is = c.outside.ensures in record {
       outside = λ e. count_outside {p = p} {k = a.k} low high a.count (sym is ∙ e);
       possible = λ e. count_possible {p = p} {k = a.k} low high a.count c.requires.ready.plan c.requires.arc (sym is ∙ e);

@@ -16,9 +16,9 @@ hold_arc-requires c =
 
 pub first_flow-requires : goal.first_flow-requires
 first_flow-requires c =
-    let a = c.args in 
+    let a = c.args in
     let p = plan_of a.arcs.now a.supplies.now in
-    let possible = c.requires.possible in 
+    let possible = c.requires.possible in
     record {
       desk = c.hold_arc.ensures.desk;
       whole = c.requires.whole;
@@ -27,9 +27,9 @@ first_flow-requires c =
 
 pub returns : goal.returns
 returns c =
-    let a = c.args in 
+    let a = c.args in
     let p = plan_of a.arcs.now a.supplies.now in
-    let possible = c.requires.possible in 
+    let possible = c.requires.possible in
     let well_formed = held_well_formed p a.k c.requires.arc a.count possible.least possible.most c.requires.ready.plan in
     record {
       first = first_with_held p a.k c.requires.arc a.count possible.least possible.most _ (c.first_flow.ensures.first (held p a.k a.count) (listed_held a.arcs.now a.supplies.now a.k a.count) well_formed c.hold_arc.ensures.held);

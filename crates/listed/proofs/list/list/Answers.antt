@@ -51,7 +51,7 @@ print_refused-requires c =
 pub returns-in-Read : goal.returns-in-Read
 returns-in-Read c =
     let said = rw c.in-Read.is at c.read.ensures in
-    let done = c.list_plan.ensures in 
+    let done = c.list_plan.ensures in
     record { text = done.text; meant = read_listing (omega arith) (omega arith) said done.meant; printed = done.printed }
 
 pub returns-in-Refused : goal.returns-in-Refused

@@ -18,7 +18,7 @@ use Rattle.listed.proofs.list.list_flow.Goals.{After-narrow}
 ranges : (c : After-narrow) → (k : ℕ) → k < length c.args.arcs.now / arc_entries
     → Narrowed (plan_of c.args.arcs.now c.args.supplies.now) k (get_or c.narrow.new.lows k 0) (get_or c.narrow.new.highs k 0)
 ranges c =
-    let w = c.requires.plan in 
+    let w = c.requires.plan in
     ranges_told w c.requires.counts.0 (omega (arith, w.arcs_fit)) (omega (arith, w.arcs_fit)) c.narrow.result c.narrow.ensures
 
 page-takes : (c : After-narrow) → Printable
@@ -41,7 +41,7 @@ print_arcs-requires c =
 pub returns : goal.returns
 returns c =
     record {
-  text = _;
-  meant = flow_listing c.requires.plan c.requires.counts.0 (ranges (goal.at.returns c).After-narrow);
-  printed = then_printed c.print_size-sized.ensures c.print_arcs.ensures;
-}
+      text = _;
+      meant = flow_listing c.requires.plan c.requires.counts.0 (ranges (goal.at.returns c).After-narrow);
+      printed = then_printed c.print_size-sized.ensures c.print_arcs.ensures;
+    }

@@ -37,7 +37,7 @@ print_all_cited-requires c =
 pub returns : goal.returns
 returns c =
     record {
-  text = _;
-  meant = marked_listing c.requires.plan c.requires.marks;
-  printed = then_printed (then_printed (then_printed c.print_size-sized.ensures c.print_none-told.ensures) c.print_set-named.ensures) c.print_all_cited.ensures;
-}
+      text = _;
+      meant = marked_listing c.requires.plan c.requires.marks;
+      printed = then_printed (then_printed (then_printed c.print_size-sized.ensures c.print_none-told.ensures) c.print_set-named.ensures) c.print_all_cited.ensures;
+    }

@@ -30,7 +30,7 @@ overflow_cast-value c =
     let said = rw c.in-Short.is at c.question.ensures in
     rw (to_z-of_z {w = w64} {z = z} (record { sfits = search rules }))
     (let bound : SFits w64 z = record { sfits = search rules } in
-      (subst (λ z. T (non_neg z)) (above_zero z said.says.1.short.positive) tt, record { fits = omega (arith, nat_abs-le z bound.sfits) }))
+    (subst (λ z. T (non_neg z)) (above_zero z said.says.1.short.positive) tt, record { fits = omega (arith, nat_abs-le z bound.sfits) }))
 
 pub slice_bounds-list_no-end : goal.slice_bounds-list_no-end
 slice_bounds-list_no-end c = sym (length-take-le _ _ (omega (arith, c.requires.plan.nodes_fit, c.question.auto.node_buffer)))
@@ -43,11 +43,11 @@ list_no-requires c =
       page = c.requires.page;
       plan = w;
       marks = subst (λ z. Marked (plan_of c.args.arcs.now c.args.supplies.now) (nat_abs z) (take (length c.args.supplies.now) c.question.new.node_buffer) c.question.new.arc_buffer)
-            (sym (to_z-of_z {w = w64} {z = z} (record { sfits = search rules })))
-            (lacking_marked (omega (arith, w.arcs_fit, c.question.auto.arc_buffer)) (omega (arith, w.nodes_fit, c.question.auto.node_buffer)) said.says.1);
+          (sym (to_z-of_z {w = w64} {z = z} (record { sfits = search rules })))
+          (lacking_marked (omega (arith, w.arcs_fit, c.question.auto.arc_buffer)) (omega (arith, w.nodes_fit, c.question.auto.node_buffer)) said.says.1);
     }
 
 pub returns-in-Refused : goal.returns-in-Refused
 returns-in-Refused c =
-    let w = c.requires.plan in 
+    let w = c.requires.plan in
     absurd (not_refused w (omega (arith, w.arcs_fit)) (omega (arith, w.nodes_fit)) (rw c.in-Refused.is at c.question.ensures))

@@ -7,13 +7,13 @@ use Rattle.narrow.proofs.request.narrow.Goals as goal
 
 pub returns-in-Refused : goal.returns-in-Refused
 returns-in-Refused c =
-    let a = c.args in 
+    let a = c.args in
     let p = plan_of a.arcs.now a.supplies.now in
     record { says = (checked_verdict p a.lows.now a.highs.now c.of-size.ensures.1 c.of-size.ensures.1 c.too_short-short.ensures c.check-verdict.ensures ∙ c.in-Refused.is, refl, refl); lows_length = refl; highs_length = refl }
 
 pub work_out-requires : goal.work_out-requires
 work_out-requires c =
-    let a = c.args in 
+    let a = c.args in
     let p = plan_of a.arcs.now a.supplies.now in
     let lows = a.lows.now in
     let highs = a.highs.now in
@@ -25,7 +25,7 @@ work_out-requires c =
 
 pub returns : goal.returns
 returns c =
-    let a = c.args in 
+    let a = c.args in
     let p = plan_of a.arcs.now a.supplies.now in
     rw c.to.ensures (record {
       says = told_says p a.lows.now a.highs.now c.work_out.new.lows c.work_out.new.highs c.work_out.result (checked_verdict p a.lows.now a.highs.now c.of-size.ensures.1 c.of-size.ensures.1 c.too_short-short.ensures c.check-verdict.ensures ∙ c.in_default.is) c.work_out.ensures;

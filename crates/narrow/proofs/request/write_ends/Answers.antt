@@ -1,6 +1,5 @@
 -- Below k the entries are the arcs' ends. Each step leaves the plan ready and arc k lacking less, until its end is known: its own end,
 -- which is written already, or one that has moved, which is written over it.
-use Prim.Native.Nat.{◌-◌}
 use mathlib.Core.Path.{refl, ◌∙◌}
 use lib.ListN.{length-set}
 use lib.Seq.{set-set}
@@ -32,9 +31,8 @@ lanes-smaller-then-step c = omega (arith, c.steps.invariant.0, c.lanes-test.true
 
 pub lanes-preserved-then-step : goal.lanes-preserved-then-step
 lanes-preserved-then-step c =
-    let inv = c.lanes.invariant in 
-    let s = c.steps.invariant in 
-    (
+    let inv = c.lanes.invariant in
+    let s = c.steps.invariant in (
       omega (arith, s.0, c.lanes-test.true),
       rw s.0 (entry_holds {list = c.lanes.ends} c.own_end.result (omega (arith, inv.1.same_length, c.lanes-test.true, c.requires.whole))
           (rw (c.own_end.ensures c.args.supplies.now) (rw s.0 at (c.step_for-step.ensures.stands c.if-step.true))) inv.1),
@@ -48,12 +46,12 @@ steps-smaller c = c.step_for-step.ensures.less c.if-step.false c.if-step-2.false
 
 pub steps-preserved : goal.steps-preserved
 steps-preserved c =
-    let s = c.steps.invariant in 
+    let s = c.steps.invariant in
     (s.0, c.step_for-step.auto.rooms ∙ s.1, c.step_for-step.auto.ways ∙ s.2, c.step_for-step.ensures.ready)
 
 pub bounds-ends-k-in-lanes : goal.bounds-ends-k-in-lanes
 bounds-ends-k-in-lanes c =
-    let inv = c.lanes.invariant in 
+    let inv = c.lanes.invariant in
     omega (arith, c.steps.invariant.0, length-set c.lanes.ends c.lanes.k c.own_end.result, inv.1.same_length, c.lanes-test.true, c.requires.whole)
 
 pub lanes-smaller : goal.lanes-smaller
@@ -61,9 +59,8 @@ lanes-smaller c = omega (arith, c.steps.invariant.0, c.lanes-test.true)
 
 pub lanes-preserved : goal.lanes-preserved
 lanes-preserved c =
-    let inv = c.lanes.invariant in 
-    let s = c.steps.invariant in 
-    (
+    let inv = c.lanes.invariant in
+    let s = c.steps.invariant in (
       omega (arith, s.0, c.lanes-test.true),
       rw (s.0, set-set c.lanes.ends c.lanes.k c.own_end.result c.step_for-step.result.end)
           (entry_holds {list = c.lanes.ends} c.step_for-step.result.end (omega (arith, inv.1.same_length, c.lanes-test.true, c.requires.whole))
@@ -84,7 +81,7 @@ shape_of-ways c = c.lanes.invariant.3
 
 pub returns : goal.returns
 returns c =
-    let inv = c.lanes.invariant in 
+    let inv = c.lanes.invariant in
     record {
       ends = λ k l. inv.1.there k (omega arith);
       past = λ i l. inv.1.past i (omega arith);

@@ -15,8 +15,8 @@ overflow_sub-high c = standing_range c.requires.stands.1.1
 
 pub measure-passage-requires : goal.measure-passage-requires
 measure-passage-requires c =
-    let a = c.args in 
-    let st = c.requires.stands.1.1 in 
+    let a = c.args in
+    let st = c.requires.stands.1.1 in
     let ne : a.b ≡ a.a → ⊥ = λ e. c.if-a-b.false (sym e) in
     record {
       desk = c.requires.desk;
@@ -29,8 +29,8 @@ end_at-requires c = (standing_range c.requires.stands.1.1, c.measure-passage.ens
 
 pub returns : goal.returns
 returns c =
-    let a = c.args in 
-    let m = c.measure-passage.ensures.measured in 
+    let a = c.args in
+    let m = c.measure-passage.ensures.measured in
     record {
       desk = c.measure-passage.ensures.desk;
       end = λ p k st. (rw c.end_at.ensures (facing_end a.rooms.now st a.upper m.amount), facing_ready a.rooms.now st c.measure-passage.new.rooms a.upper m.still);

@@ -18,7 +18,7 @@ overflow_sub-count c = standing_least c.requires.stands.1.1.0 c.requires.stands.
 
 pub hold-requires : goal.hold-requires
 hold-requires c =
-    let st = c.requires.stands.1.1.0 in 
+    let st = c.requires.stands.1.1.0 in
     let ne : c.args.b ≡ c.args.a → ⊥ = λ e. c.if-a-b.false (sym e) in
     record {
       desk = c.requires.desk;

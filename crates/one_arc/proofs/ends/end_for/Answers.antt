@@ -5,7 +5,7 @@ use Rattle.one_arc.proofs.ends.end_for.Goals as goal
 
 pub end_of-requires : goal.end_of-requires
 end_of-requires c =
-    let a = c.args in 
+    let a = c.args in
     let p = plan_of a.arcs.now a.supplies.now in
     record {
       desk = c.requires.ready.desk;
@@ -14,7 +14,7 @@ end_of-requires c =
 
 pub returns : goal.returns
 returns c =
-    let a = c.args in 
+    let a = c.args in
     let p = plan_of a.arcs.now a.supplies.now in
     let e = c.end_of.ensures.end p a.k (rw c.arc_at-arc.ensures (own_standing {p = p} {k = a.k} c.requires.ready.plan c.requires.arc c.requires.ready.ready)) in
     record {

@@ -12,7 +12,7 @@ returns-then-a-b c =
 
 pub returns : goal.returns
 returns c =
-    let r = c.lesser.ensures in 
+    let r = c.lesser.ensures in
     record {
       all = λ e. absurd (c.if-a-b.false (sym e));
       fits = λ ne. (r.0, omega (arith, r.1, c.room_of.ensures), λ less. r.3 less ∙ c.room_of.ensures);

@@ -17,7 +17,7 @@ standing : (c : After-arc_at-arc)
     → Standing (plan_of c.args.arcs.now c.args.supplies.now) c.args.k (length c.args.supplies.now)
     c.arc_at-arc.result.from c.arc_at-arc.result.to c.arc_at-arc.result.low c.arc_at-arc.result.high (seen c.args.rooms.now false)
 standing c =
-    let a = c.args in 
+    let a = c.args in
     rw c.arc_at-arc.ensures (own_standing {p = plan_of a.arcs.now a.supplies.now} {k = a.k} c.requires.ready.plan c.requires.arc c.requires.ready.ready)
 
 -- the arc is no self-loop, and its room is less than its width
@@ -33,13 +33,13 @@ overflow_sub-width c = standing_range (standing (goal.at.overflow_sub-width c).A
 
 pub free_now-there-requires : goal.free_now-there-requires
 free_now-there-requires c =
-    let desk = c.requires.ready.desk in 
+    let desk = c.requires.ready.desk in
     let st = standing (goal.at.free_now-there-requires c).After-arc_at-arc in
     (desk.ways_show.rooms_whole, omega (arith, standing_from st, desk.fitting.few), omega (arith, standing_to st, desk.fitting.few))
 
 pub returns-then-there-width : goal.returns-then-there-width
 returns-then-there-width c =
-    let a = c.args in 
+    let a = c.args in
     let st = standing (goal.at.returns-then-there-width c).After-arc_at-arc in record {
       stands = λ e. facing_stands a.rooms.now st a.upper {S = λ v. false}
           (there_whole (standing_from st) (standing_to st) c.free_now-there.ensures.all c.free_now-there.ensures.fits (omega (arith, c.if-there-width.true))) c.if-there-width.true;
@@ -53,7 +53,7 @@ overflow_sub-width-2 c = omega (arith, short (goal.at.overflow_sub-width-2 c).El
 
 pub advance-lap-requires : goal.advance-lap-requires
 advance-lap-requires c =
-    let a = c.args in 
+    let a = c.args in
     let st = standing (goal.at.advance-lap-requires c).After-arc_at-arc in
     let s = short (goal.at.advance-lap-requires c).Else-there-width in
     record {
@@ -69,15 +69,15 @@ end_at-requires c =
 
 pub returns : goal.returns
 returns c =
-    let a = c.args in 
+    let a = c.args in
     let rooms = a.rooms.now in
     let st = standing (goal.at.returns c).After-arc_at-arc in
     let s = short (goal.at.returns c).Else-there-width in
-    let lap = c.advance-lap.ensures.round in 
+    let lap = c.advance-lap.ensures.round in
     let after = c.advance-lap.new.rooms in record {
       stands = λ e. absurd (false≢true e);
       moved = λ e. rw c.end_at.ensures (facing_end rooms st a.upper
-            (there_stuck (standing_from st) (standing_to st) c.free_now-there.ensures.all c.free_now-there.ensures.fits s.1 (lap.stuck (not-true c.advance-lap.result.turned e))));
+          (there_stuck (standing_from st) (standing_to st) c.free_now-there.ensures.all c.free_now-there.ensures.fits s.1 (lap.stuck (not-true c.advance-lap.result.turned e))));
       less = λ e f. facing_less rooms st after a.upper (omega (arith, (c.free_now-there.ensures.fits s.0).2 s.1, s.1)) (lap.wider refl (not-false c.advance-lap.result.turned f));
       ready = record { plan = c.requires.ready.plan; desk = c.advance-lap.ensures.desk; ready = facing_ready rooms st after a.upper lap.still };
     }

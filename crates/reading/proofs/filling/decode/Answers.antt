@@ -1,6 +1,6 @@
 -- The loop writes one arc a turn.
 use native.Mathlib.Nat.{add-zero}
-use Prim.Native.Nat.{◌+◌, ◌-◌, ◌<◌}
+use Prim.Native.Nat.{◌+◌, ◌<◌}
 use mathlib.Core.Path.{◌≡◌, refl, ◌∙◌}
 use Rattle.lists.proofs.Arcs.{arcs_on}
 use native.Mathlib.Omega.{arith}
@@ -11,11 +11,11 @@ loop-j-init c = (omega arith, refl, λ p before records filled. rw add-zero fill
 
 pub loop-j-preserved : goal.loop-j-preserved
 loop-j-preserved c =
-    let a = c.args in 
-    let j = c.loop-j.j in 
-    let inv = c.loop-j.invariant in 
+    let a = c.args in
+    let j = c.loop-j.j in
+    let inv = c.loop-j.invariant in
     let here : j < a.count = c.loop-j-test.true in
-    let arc = c.arc_at.ensures in 
+    let arc = c.arc_at.ensures in
     let next : a.first + (j + 1) ≡ a.first + j + 1 = omega arith in (
       omega arith,
       c.write_arc.auto.arcs ∙ inv.1,

@@ -10,8 +10,8 @@ use Rattle.reading.proofs.filling.fill_block.Goals as goal
 pub returns : goal.returns
 returns c =
     λ before filled.
-    let a = c.args in 
-    let count = c.arcs_in.result in 
+    let a = c.args in
+    let count = c.arcs_in.result in
     let is : count ≡ arcs_in first_edition a.count a.b = c.arcs_in.ensures in
     let few : count ≤ 84 = omega (arith, is) in
     let all : (a.b - 1) * 84 + count ≡ min a.count (a.b * 84) = omega (arith, is, c.requires.block, c.requires.arcs) in

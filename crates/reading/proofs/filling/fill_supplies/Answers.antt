@@ -2,7 +2,7 @@
 use mir.Syntax.{w32}
 use mir.Facts.{to_z-of_z}
 use Rattle.format.specs.Held.{four, signed}
-use Prim.Native.Nat.{◌+◌, ◌-◌, ◌*◌}
+use Prim.Native.Nat.{◌+◌, ◌*◌}
 use mathlib.Core.Path.{◌≡◌, refl, ap, ◌∙◌}
 use lib.ListN.{length-set}
 use Rattle.lists.proofs.Entries.{entries_none, entries_on}
@@ -17,9 +17,9 @@ bounds-supplies-v c = omega (arith, c.loop-v.invariant.1, c.loop-v-test.true, c.
 
 pub loop-v-preserved : goal.loop-v-preserved
 loop-v-preserved c =
-    let file = c.args.file.now in 
-    let v = c.loop-v.v in 
-    let inv = c.loop-v.invariant in 
+    let file = c.args.file.now in
+    let v = c.loop-v.v in
+    let inv = c.loop-v.invariant in
     let at : 6 + v * 4 ≡ 0 + (6 + v * 4) = omega arith in
     rw (to_z-of_z {w = w32} {z = c.signed.result} (record { sfits = c.signed.type_inv })) (
       omega arith,

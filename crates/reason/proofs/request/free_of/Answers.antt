@@ -16,7 +16,7 @@ returns-then-from-to c = rw (c.whole.ensures, c.arc_at-arc.ensures) (loop_freed 
 
 pub measure-requires : goal.measure-requires
 measure-requires c =
-    let a = c.args in 
+    let a = c.args in
     let p = plan_of a.arcs.now a.supplies.now in
     let st = own_standing {p = p} {k = a.k} c.requires.ready.plan c.requires.arc c.requires.ready.ready in
     let ne : p.to a.k ≡ p.from a.k → ⊥ = λ e. c.if-from-to.false (rw c.arc_at-arc.ensures (sym e)) in
@@ -28,5 +28,5 @@ measure-requires c =
 
 pub returns : goal.returns
 returns c =
-    let a = c.args in 
+    let a = c.args in
     free_freed {p = plan_of a.arcs.now a.supplies.now} {k = a.k} c.requires.ready.plan c.requires.arc a.rooms.now c.requires.ready.ready a.upper (rw c.arc_at-arc.ensures at c.measure.ensures.measured.amount)

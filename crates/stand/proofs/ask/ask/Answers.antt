@@ -4,7 +4,7 @@ use Rattle.stand.proofs.ask.ask.Goals as goal
 
 pub ask_on-requires : goal.ask_on-requires
 ask_on-requires c =
-    let few = c.requires.plan.nodes_fit in 
+    let few = c.requires.plan.nodes_fit in
     record {
       desk = c.requires;
       lists = (omega arith, omega arith);

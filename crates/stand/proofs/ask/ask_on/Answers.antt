@@ -11,7 +11,7 @@ use Rattle.stand.proofs.ask.ask_on.Goals as goal
 
 pub settle-set-requires : goal.settle-set-requires
 settle-set-requires c =
-    let lists = c.requires.lists in 
+    let lists = c.requires.lists in
     record {
       desk = c.build.ensures.desk;
       lists = (omega (arith, lists.0, c.build.auto.over), omega (arith, lists.1, c.build.auto.under));
@@ -22,14 +22,14 @@ total_of-total-requires c = (c.requires.desk.plan.nodes_fit, omega (arith, c.req
 
 pub returns-then-total-eq0 : goal.returns-then-total-eq0
 returns-then-total-eq0 c =
-    let w = c.requires.desk.plan in 
+    let w = c.requires.desk.plan in
     let none = sym (ap (of_z w64) c.total_of-total.ensures) ∙ c.if-total-eq0.true in
     told_ready (record { plan = w; desk = c.settle-set.ensures.desk; ready = asked_ready w c.build.ensures.entered c.settle-set.ensures.settled none })
 
 pub returns : goal.returns
 returns c =
-    let w = c.requires.desk.plan in 
-    let total = c.total_of-total in 
+    let w = c.requires.desk.plan in
+    let total = c.total_of-total in
     let some = pos_of_ne-zero (λ e. c.if-total-eq0.false (ap (of_z w64) total.ensures ∙ e)) in
     rw (to_z-of_z {w = w64} {z = total.result} (record { sfits = total.type_inv }), total.ensures)
     (told_short (asked_short w c.build.ensures.entered c.settle-set.ensures.settled some))

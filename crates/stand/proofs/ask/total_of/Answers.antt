@@ -2,10 +2,9 @@
 use lib.IntN.{pos}
 use mir.ValLaws.{to_z_pos}
 use mir.Syntax.{w64}
-use Rattle.rooms.specs.Room.{at}
 use native.Mathlib.Numerals.{add-one}
 use mathlib.Core.Path.{◌≡◌, refl, ap, ◌∙◌}
-use Prim.Native.Nat.{◌-◌, ◌^◌, ◌<◌}
+use Prim.Native.Nat.{◌^◌, ◌<◌}
 use native.Mathlib.Omega.{arith}
 use Rattle.stand.proofs.ask.total_of.Goals as goal
 

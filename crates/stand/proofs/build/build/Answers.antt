@@ -1,11 +1,10 @@
 -- The loop's invariant: the first k arcs are entered, the words show the rooms, and the lists are as long as they were. With all
 -- arcs entered, the plan stands.
-use Prim.Native.Nat.{◌-◌, ◌/◌}
+use Prim.Native.Nat.{◌/◌}
 use mathlib.Core.Path.{◌≡◌, refl, ◌∙◌}
 use native.Mathlib.Omega.{arith}
 use native.Mathlib.Numerals.{add-one}
 use lib.ListN.{length}
-use Rattle.rooms.specs.Room.{at}
 use Rattle.plan.specs.Limits.{arc_entries}
 use Rattle.stand.proofs.Building.{empty_ways, entered_none, entered_more, arc_ends, arc_fits, entered_represents, entered_fitting}
 use Rattle.stand.proofs.build.build.Goals as goal
@@ -19,14 +18,14 @@ enter_supplies-requires c =
 
 pub loop-k-init : goal.loop-k-init
 loop-k-init c =
-    let desk = c.requires.desk in 
+    let desk = c.requires.desk in
     (omega arith, refl, refl, refl, refl, empty_ways desk, entered_none desk c.enter_supplies.ensures.over c.enter_supplies.ensures.under)
 
 pub enter_arc-requires : goal.enter_arc-requires
 enter_arc-requires c =
-    let w = c.requires.desk.plan in 
-    let l = c.loop-k-test.true in 
-    let inv = c.loop-k.invariant in 
+    let w = c.requires.desk.plan in
+    let l = c.loop-k-test.true in
+    let inv = c.loop-k.invariant in
     rw c.arc_at.ensures (record {
       ways = inv.5;
       ends = arc_ends w l (omega (arith, inv.3, c.enter_supplies.auto.over, c.requires.lists.0)) (omega (arith, inv.4, c.enter_supplies.auto.under, c.requires.lists.1));
@@ -39,8 +38,8 @@ loop-k-smaller c = omega arith
 
 pub loop-k-preserved : goal.loop-k-preserved
 loop-k-preserved c =
-    let inv = c.loop-k.invariant in 
-    let arc = c.arc_at.ensures in 
+    let inv = c.loop-k.invariant in
+    let arc = c.arc_at.ensures in
     rw add-one (
       omega arith,
       c.enter_arc.auto.rooms ∙ inv.1,
@@ -65,8 +64,8 @@ shape_of-under c = c.loop-k.invariant.4 ∙ c.enter_supplies.auto.under
 
 pub returns : goal.returns
 returns c =
-    let w = c.requires.desk.plan in 
-    let last = c.loop-k in 
+    let w = c.requires.desk.plan in
+    let last = c.loop-k in
     let full : last.k ≡ length c.args.arcs.now / arc_entries = omega arith in
     let all = rw full at last.invariant.6 in
     (record {

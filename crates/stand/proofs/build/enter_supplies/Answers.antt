@@ -1,5 +1,5 @@
 -- The loop's invariant: the nodes passed have their parts written, the lists are as long as they were. A turn writes one node's.
-use Prim.Native.Nat.{◌-◌, ◌≤◌}
+use Prim.Native.Nat.{◌≤◌}
 use mathlib.Core.Path.{◌≡◌, refl, ◌∙◌}
 use native.Mathlib.Omega.{arith}
 use native.Mathlib.Numerals.{add-one}
@@ -34,7 +34,7 @@ lacks-requires c = rw (seen (goal.at.lacks-requires c).After-supply-1) (small (g
 
 pub loop-v-preserved : goal.loop-v-preserved
 loop-v-preserved c =
-    let head = c.loop-v in 
+    let head = c.loop-v in
     rw (c.has.ensures, c.lacks.ensures, seen (goal.at.loop-v-preserved c).After-supply-1, add-one) (
       omega arith,
       length-set head.over head.v _ ∙ head.invariant.1,

@@ -15,9 +15,9 @@ seen c = to_z-of_z {w = w32} {z = c.args.supply} c.ranges.supply
 pub overflow_cast-result : goal.overflow_cast-result
 overflow_cast-result c =
     rw (seen (goal.at.overflow_cast-result c).Start) (
-  (positive_has c.args.supply (rw (seen (goal.at.overflow_cast-result c).Start) at c.if-supply-ge0.true)).0,
-  record { fits = omega (arith, c.requires) },
-)
+      (positive_has c.args.supply (rw (seen (goal.at.overflow_cast-result c).Start) at c.if-supply-ge0.true)).0,
+      record { fits = omega (arith, c.requires) },
+    )
 
 pub returns-then-supply-ge0 : goal.returns-then-supply-ge0
 returns-then-supply-ge0 c = rw (seen (goal.at.returns-then-supply-ge0 c).Start) (positive_has c.args.supply (rw (seen (goal.at.returns-then-supply-ge0 c).Start) at c.if-supply-ge0.true)).1
