@@ -14,7 +14,7 @@ use ways::{push, word_at};
 use words::{but, one};
 
 // How much of a width is free, and the set that is in the way where that is not all of it.
-#[derive(Drop)]
+#[derive(Clone, Copy)]
 pub struct Passage {
     pub free: u32,
     pub set: u64,
@@ -33,7 +33,7 @@ impl Passage {
 }
 
 // How long a way round is; or 0, and the set that is in the way.
-#[derive(Drop)]
+#[derive(Clone, Copy)]
 struct Way {
     depth: usize,
     set: u64,
@@ -94,7 +94,7 @@ fn turn(
 }
 
 // Whether some was brought round; if not, the set that is in the way.
-#[derive(Drop)]
+#[derive(Clone, Copy)]
 pub struct Lap {
     pub turned: bool,
     pub set: u64,

@@ -8,7 +8,7 @@ use std::io;
 use std::io::{Print, Read};
 
 // How many bytes of the buffer the input takes; or a read failed, and nothing counts as read.
-#[derive(Drop)]
+#[derive(Clone, Copy)]
 pub enum Input {
     Whole(usize),
     Failed,

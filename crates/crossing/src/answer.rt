@@ -11,7 +11,7 @@ use plan::Verdict;
 
 // The paper's number, then the place and the value that go with it, or zeros.
 #[repr(C)]
-#[derive(Drop)]
+#[derive(Clone, Copy)]
 pub struct Answer {
     pub number: u32,
     pub index: u32,

@@ -41,7 +41,7 @@ fn spend(numbers: &mut [u32], word: u64, x: usize, d: u32) -> u64
 }
 
 // How long a path is and whether there is one; if not, what was reached.
-#[derive(Drop)]
+#[derive(Clone, Copy)]
 struct Way {
     depth: usize,
     found: bool,
@@ -90,7 +90,7 @@ fn errand(
 }
 
 // Where some is over and where it lacks.
-#[derive(Drop)]
+#[derive(Clone, Copy)]
 struct Ends {
     spare: u64,
     lack: u64,

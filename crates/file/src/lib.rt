@@ -4,14 +4,14 @@
 #![tactic(auto)]
 
 // What reading gives: the node count and the arc count, or a number of document 01 with its place.
-#[derive(Drop)]
+#[derive(Clone, Copy)]
 pub enum Answer {
     Read(usize, usize),
     Refused(u32, usize),
 }
 
 // What writing gives: the length of the file, or a number of document 01 with its place.
-#[derive(Drop)]
+#[derive(Clone, Copy)]
 pub enum Written {
     Length(usize),
     Refused(u32, usize),

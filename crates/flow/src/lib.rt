@@ -12,7 +12,7 @@ use stand::Asked;
 
 // There is a flow; or there is none, with the greatest shortfall; or the number and the lowest place by
 // which the input is turned down.
-#[derive(Drop)]
+#[derive(Clone, Copy)]
 pub enum Answer {
     Runs,
     Short(i64),

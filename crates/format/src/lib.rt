@@ -10,7 +10,7 @@ ghost use Rattle.std.specs.Prelude.{◌≡◌};
 ghost use Rattle.format.specs.Format.{first_edition, block_size, kind_at, number_at, first_at, second_at, payload_at, check_at, check_modulus, supply_size};
 
 // What a later edition of the file changes.
-#[derive(Drop)]
+#[derive(Clone, Copy)]
 pub struct Edition {}
 
 impl Edition {

@@ -11,7 +11,7 @@ use stand::Asked;
 
 // There is such a flow; or there is none at all, with the greatest shortfall; or the count is outside the
 // lane's narrowed range; or the number and the lowest place by which the input is turned down.
-#[derive(Drop)]
+#[derive(Clone, Copy)]
 pub enum Answer {
     Runs,
     Short(i64),

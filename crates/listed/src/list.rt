@@ -15,7 +15,7 @@ use plan::{Arc, Plan};
 use reading::read;
 
 // Lent bytes that take every listing.
-#[derive(Drop)]
+#[derive(Clone, Copy)]
 pub struct Page {}
 
 impl Page {

@@ -56,7 +56,7 @@ pub fn own_end(arcs: &[u32], k: usize, upper: bool) -> u32
 }
 
 // What one step shows of an end: it stands, or it has moved and lies there, or nothing yet.
-#[derive(Drop)]
+#[derive(Clone, Copy)]
 pub struct Step {
     pub stands: bool,
     pub moved: bool,

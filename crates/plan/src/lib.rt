@@ -6,7 +6,7 @@ ghost use Rattle.std.specs.Prelude.{◌≡◌, ◌/◌, pos, length};
 ghost use Rattle.plan.specs.Limits.{most_nodes, most_arcs, most_supply, widest_low, widest_high, arc_entries};
 
 // How large a plan is: its stations and its lanes.
-#[derive(Drop)]
+#[derive(Clone, Copy)]
 pub struct Plan {
     pub nodes: usize,
     pub arcs: usize,
@@ -31,7 +31,7 @@ impl Plan {
 }
 
 // A lane from one station to another, and how few and how many it takes.
-#[derive(Drop)]
+#[derive(Clone, Copy)]
 pub struct Arc {
     pub from: u32,
     pub to: u32,
@@ -67,7 +67,7 @@ impl Arc {
 }
 
 // What is said of an input: that it is accepted, or a number of document 01 with the lowest place.
-#[derive(Drop)]
+#[derive(Clone, Copy)]
 pub enum Verdict {
     Accepted,
     Refused(u32, usize),

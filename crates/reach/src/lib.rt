@@ -14,7 +14,7 @@ use ways::word_at;
 use words::{both, but, either, one, take_first};
 
 // The last level of a search, what of the goal it meets, and, where that is nothing, all that was reached.
-#[derive(Drop)]
+#[derive(Clone, Copy)]
 pub struct Found {
     pub depth: usize,
     pub met: u64,

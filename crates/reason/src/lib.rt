@@ -12,7 +12,7 @@ use stand::Asked;
 
 // The end stands; or it moved to a value; or there is no flow, with the greatest shortfall; or the number
 // and the lowest place by which the input is turned down.
-#[derive(Drop)]
+#[derive(Clone, Copy)]
 pub enum Answer {
     Stands,
     Moved(u32),

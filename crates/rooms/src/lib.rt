@@ -6,7 +6,7 @@ ghost use Rattle.std.specs.Prelude.{◌≡◌, ◌+◌, ◌*◌, ◌^◌, ◌≤
 ghost use Rattle.rooms.specs.Room.{side, cell, at, seen};
 ghost use Rattle.rooms.specs.Move.{Less};
 
-#[derive(Drop)]
+#[derive(Clone, Copy)]
 pub struct Rooms {
     pub nodes: usize,
 }

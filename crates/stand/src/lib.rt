@@ -6,14 +6,14 @@ pub mod ask;
 pub mod build;
 
 // Everything balances, so there is a flow; or so much lacks.
-#[derive(Drop)]
+#[derive(Clone, Copy)]
 pub enum Asked {
     Balances,
     Lacks(i64),
 }
 
 // What asking a plan comes to; where so much lacks, the set is the shortage set.
-#[derive(Drop)]
+#[derive(Clone, Copy)]
 pub struct Outcome {
     pub asked: Asked,
     pub set: u64,

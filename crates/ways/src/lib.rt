@@ -10,7 +10,7 @@ ghost use Rattle.ways.specs.Ways.{row, Ways, Marked};
 use rooms::{Rooms, place, room_of};
 use words::{but, either, one};
 
-#[derive(Drop)]
+#[derive(Clone, Copy)]
 pub struct Words {
     pub nodes: usize,
 }

@@ -52,7 +52,7 @@ pub fn but(a: u64, b: u64) -> u64
 }
 
 // The least number of a set, and the set without it.
-#[derive(Drop)]
+#[derive(Clone, Copy)]
 pub struct Split {
     pub first: usize,
     pub rest: u64,
