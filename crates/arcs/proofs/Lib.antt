@@ -1,3 +1,4 @@
+pub mod Room
 pub mod Taking
 pub mod Flat
 pub mod Entry
