@@ -16,16 +16,6 @@ use Rattle.across.proofs.Crossing.{crossing_closed, crossing_all}
 
 -- ---- drawing
 
-pub drawn_none : {n : ℕ} {room : ℕ → ℕ → ℕ} {lack : ℕ → ℕ} → Drawn n room lack room lack
-drawn_none = record { account = λ S. refl; same = record { pairs = λ x y lx ly. refl } }
-
-pub drawn_on : {n : ℕ} {room₀ room room' : ℕ → ℕ → ℕ} {lack₀ lack lack' : ℕ → ℕ} → Drawn n room₀ lack₀ room lack → Drawn n room lack room' lack'
-    → Drawn n room₀ lack₀ room' lack'
-drawn_on k l = record {
-  account = λ S. k.account S ∙ l.account S;
-  same = record { pairs = λ x y lx ly. k.same.pairs x y lx ly ∙ l.same.pairs x y lx ly };
-}
-
 -- d is pushed from x to y, and lacks at x where it lacked at y
 pub drawn_push : {n : ℕ} {room room' : ℕ → ℕ → ℕ} (lack lack₁ lack' : ℕ → ℕ) {x y d : ℕ} → n ≤ side → x < n → y < n → (x ≡ y → ⊥)
     → Pushed room room' x y d → Less lack lack₁ y d → Less lack' lack₁ x d → Drawn n room lack room' lack'

@@ -9,7 +9,7 @@ use native.Mathlib.Decide.{ℕ_discrete}
 use lib.Dec.{eqb, ltb}
 use lib.ListN.{length, set}
 use lib.Seq.{get_or-set_same, get_or-set_other}
-use borrow.Author.Tests.{eq-eqb, ne_eqb, eqb-true, not-true, lt-ltb, ltb-true, ltb-false}
+use borrow.Author.Tests.{eq-eqb, ne_eqb, eqb-true, not-true, lt-ltb, ltb-true}
 use Rattle.numbers.specs.Sums.{only}
 use Rattle.words.specs.Word.{holds}
 use Rattle.rooms.specs.Room.{side, at, seen, crossing, Fitting, Still}
@@ -22,7 +22,7 @@ use Rattle.numbers.proofs.Truth.{both_true, true_both, true_or_false}
 use Rattle.engine.specs.Path.{Moved}
 use Rattle.engine.proofs.Account.{crossing_pushed, pairs_pushed}
 use Rattle.across.specs.Free.{Splits, Tight, Free}
-use Rattle.across.specs.Round.{WayRound, Round, Turned, WentRound, Measured}
+use Rattle.across.specs.Round.{WayRound, NoWay, Round, Turned, WentRound, Measured}
 use Rattle.across.proofs.Crossing.{crossing_member, crossing_two, crossing_shut}
 
 -- ---- what the search says of the goal: where the last step to b can start
@@ -84,21 +84,19 @@ module _ (way turned : ℕ → ℕ → Bool) (a b start goal : ℕ) (la : a < si
     last : at (set path (depth + 1) b) (depth + 1) ≡ b
     last = get_or-set_same path (depth + 1) b 0 l
 
-    pub way_found : (S : ℕ) → WayRound way a b (at (set path (depth + 1) b)) (depth + 1) S
-    way_found S = record {
-      track = λ more. record {
+    pub way_found : WayRound way a b (at (set path (depth + 1) b)) (depth + 1)
+    way_found = record {
+      track = record {
         node = λ i h. by_cases (ℕ_discrete i (depth + 1)) (λ e. rw (e, last) lb) (λ n. rw (here i (omega arith)) (p.node i (omega arith)));
         once = λ i j h h' e. by_cases (ℕ_discrete j (depth + 1))
             (λ ej. never i (omega arith) (sym (here i (omega arith)) ∙ e ∙ ap (at (set path (depth + 1) b)) ej ∙ last))
             (λ n. p.once i j h (omega arith) (sym (here i (omega arith)) ∙ e ∙ here j (omega arith)));
       };
-      starts = λ more. here 0 (omega arith) ∙ first_a;
-      ends = λ more. last;
+      starts = here 0 (omega arith) ∙ first_a;
+      ends = last;
       steps = λ i h. by_cases (ℕ_discrete i depth)
           (λ e. rw (e, here depth (omega arith), last) (from_goal (at path depth) (p.node depth (omega arith)) (met_there (at path depth) p.ends)))
           (λ n. rw (here i (omega arith), here (i + 1) (omega arith)) (p.step i (omega arith)));
-      all_reached = λ e. absurd (omega arith);
-      outside = λ e. absurd (omega arith);
     }
 
 -- ---- a round
@@ -204,17 +202,13 @@ module _ {n : ℕ} {rooms ways : List ℕ} {a b start : ℕ} (back : Bool) (set 
     least = λ R s e v lv. within R s e v;
   }
 
--- a round with a way, and one without
-pub some_went : {n : ℕ} {far : Bool} {room room' : ℕ → ℕ → ℕ} {a b : ℕ} {set : ℕ → Bool} → Still n room room' → (far ≡ false → room a b < room' a b)
-    → WentRound n far room room' a b true set
-some_went k wide = record { still = k; wider = λ f e. wide f; stuck = λ e. absurd (true≢false e); unmoved = λ e. absurd (true≢false e) }
-
-pub none_went : {n : ℕ} {far : Bool} {rooms ways : List ℕ} {a b set : ℕ} {path : ℕ → ℕ} (back : Bool) → Desk n rooms ways → a < n → b < n
-    → (depth : ℕ) → depth ≡ 0 → WayRound (leads ways back) a b path depth set → WentRound n far (seen rooms back) (seen rooms back) a b false (holds set)
-none_went {set = set} back desk la lb depth none v = let r = v.all_reached none in record {
+-- a round without a way
+pub none_went : {n : ℕ} {far : Bool} {rooms ways : List ℕ} {a b set : ℕ} (back : Bool) → Desk n rooms ways → a < n → b < n
+    → NoWay (leads ways back) a b set → WentRound n far (seen rooms back) (seen rooms back) a b false (holds set)
+none_went {set = set} back desk la lb v = record {
   still = still_none;
   wider = λ f e. absurd (false≢true e);
-  stuck = λ e. stuck_tight back set desk la lb r.1 r.2 (v.outside none);
+  stuck = λ e. stuck_tight back set desk la lb v.all_reached.1 v.all_reached.2 v.outside;
   unmoved = λ e. refl;
 }
 
@@ -250,24 +244,36 @@ still_free {S = S} k f = record {
   };
 }
 
--- a change that keeps the room out of every set, and then rounds until the direct room is wider: it is, or it is all there is across
+-- after rounds that keep the room out of every set: the direct room is as wide as asked for, or a set is in the way
+module _ {n : ℕ} {room₀ room : ℕ → ℕ → ℕ} {a b width : ℕ} {S : ℕ → Bool} (la : a < n) (lb : b < n) (k : Still n room₀ room) where
+  pub whole_measured : width ≤ room a b → Measured n room₀ room a b width width S
+  whole_measured wide = record { still = k; amount = still_free k (whole_free la lb wide); there = wide }
+
+  pub stuck_measured : {far : Bool} {room' : ℕ → ℕ → ℕ} → room a b < width → WentRound n far room room' a b false S
+      → Measured n room₀ room' a b width (room a b) S
+  stuck_measured short w = record {
+    still = still_more k w.still;
+    amount = still_free k (stuck_free la lb (omega arith) (w.stuck refl));
+    there = omega (arith, w.unmoved refl);
+  }
+
+-- a change that keeps the room out of every set, and then rounds that make the direct room no wider: it is all there is across
 module _ {n : ℕ} {room room₁ room' : ℕ → ℕ → ℕ} {a b free : ℕ} {S : ℕ → Bool} (la : a < n) (lb : b < n)
-    (k : Still n room room₁) (m : Measured n room₁ room' a b (room a b + 1) free S) where
-  tight : ltb (room a b) free ≡ false → Tight n room a b free S
-  tight e = (still_free k m.amount).tight (omega (arith, ltb-false (room a b) free e))
+    (k : Still n room room₁) (m : Measured n room₁ room' a b (room a b + 1) free S) (less : free ≤ room a b) where
+  tight : Tight n room a b free S
+  tight = (still_free k m.amount).tight (omega arith)
 
-  all_across : ltb (room a b) free ≡ false → free ≡ room a b
-  all_across e = let t = tight e in
-      omega (arith, ltb-false (room a b) free e, crossing_member n room S a b la lb t.splits.inside t.splits.outside, t.across)
+  all_across : free ≡ room a b
+  all_across = let t = tight in omega (arith, crossing_member n room S a b la lb t.splits.inside t.splits.outside, t.across)
 
-  pub far_round : {far : Bool} → WentRound n far room room' a b (ltb (room a b) free) S
-  far_round = record {
+  pub far_stuck : {far : Bool} → WentRound n far room room' a b false S
+  far_stuck = record {
     still = still_more k m.still;
-    wider = λ f e. omega (arith, ltb-true (room a b) free e, m.there);
-    stuck = λ e. rw (all_across e) at (tight e);
-    unmoved = λ e. let t = tight e in omega (
+    wider = λ f e. absurd (false≢true e);
+    stuck = λ e. rw all_across at tight;
+    unmoved = λ e. let t = tight in omega (
       arith,
-      all_across e,
+      all_across,
       m.there,
       crossing_member n room' S a b la lb t.splits.inside t.splits.outside,
       k.across S,
@@ -277,36 +283,35 @@ module _ {n : ℕ} {room room₁ room' : ℕ → ℕ → ℕ} {a b free : ℕ} {
   }
 
 -- a way by the words is a round by the rooms
-pub round_of : {n : ℕ} {rooms ways : List ℕ} {a b depth set : ℕ} {path : ℕ → ℕ} (back : Bool) → Desk n rooms ways → a < n
-    → WayRound (leads ways back) a b path depth set → 0 < depth → Round n (seen rooms back) a b path depth
-round_of {n} {rooms} {a = a} {depth = depth} {path = path} back desk la v more = record {
-  track = record { node = node; once = (v.track more).once };
-  starts = v.starts more;
-  ends = v.ends more;
+pub round_of : {n : ℕ} {rooms ways : List ℕ} {a b depth : ℕ} {path : ℕ → ℕ} (back : Bool) → Desk n rooms ways → a < n
+    → WayRound (leads ways back) a b path depth → Round n (seen rooms back) a b path depth
+round_of {n} {rooms} {a = a} {depth = depth} {path = path} back desk la v = record {
+  track = record { node = node; once = v.track.once };
+  starts = v.starts;
+  ends = v.ends;
   rooms_there = there;
   not_direct = λ i l e f. (v.steps i l).not_shut e f;
 }
   where
     there : (i : ℕ) → i < depth → 0 < seen rooms back (path i) (path (i + 1))
-    there i l = ltb-true 0 _ (sym (desk.ways_show.shown back (path i) (path (i + 1)) ((v.track more).node i (omega arith)) (v.steps i l).node) ∙ (v.steps i l).leads)
+    there i l = let s = v.steps i l in
+        ltb-true 0 _ (sym (desk.ways_show.shown back (path i) (path (i + 1)) (v.track.node i (omega arith)) s.node) ∙ s.leads)
 
     node : (i : ℕ) → i ≤ depth → path i < n
-    node zero h = rw (v.starts more) la
-    node (suc i) h = subst (λ j. path j < n) same
-        ((fitting_facing rooms back desk.fitting).inside (path i) (path (i + 1)) ((v.track more).node i (omega arith)) (v.steps i (omega arith)).node (there i (omega arith))).1
+    node zero h = rw v.starts la
+    node (suc i) h = let fits = fitting_facing rooms back desk.fitting in
+        subst (λ j. path j < n) same (fits.inside (path i) (path (i + 1)) (v.track.node i (omega arith))
+        (v.steps i (omega arith)).node (there i (omega arith))).1
       where
         same : i + 1 ≡ suc i
         same = omega arith
 
+-- what was reached is in the way
 pub way_none : (way turned : ℕ → ℕ → Bool) (a b start goal : ℕ) → a < side → b < side → (b ≡ a → ⊥)
     → ((x y : ℕ) → x < side → y < side → turned y x ≡ way x y) → ((z : ℕ) → holds start z ≡ eqb z a)
-    → ((z : ℕ) → holds goal z ≡ turned b z && not (holds start z)) → (path : ℕ → ℕ) (S : ℕ)
-    → Reached way a b start (holds S) → ((x : ℕ) → holds S x ≡ true → holds goal x ≡ false) → WayRound way a b path 0 S
-way_none way turned a b start goal la lb ne t es eg path S r clear = record {
-  track = λ more. absurd (omega arith);
-  starts = λ more. absurd (omega arith);
-  ends = λ more. absurd (omega arith);
-  steps = λ i h. absurd (omega arith);
-  all_reached = λ e. (start, es, r);
-  outside = λ e. none_round way turned a b start goal la lb ne t es eg (holds S) r clear;
+    → ((z : ℕ) → holds goal z ≡ turned b z && not (holds start z)) → (S : ℕ)
+    → Reached way a b start (holds S) → ((x : ℕ) → holds S x ≡ true → holds goal x ≡ false) → NoWay way a b S
+way_none way turned a b start goal la lb ne t es eg S r clear = record {
+  all_reached = (start, es, r);
+  outside = none_round way turned a b start goal la lb ne t es eg (holds S) r clear;
 }

@@ -1,8 +1,21 @@
 -- What lacks is moved on from node to node against the rooms: every set's account stays, and so does the room of each pair.
-use Rattle.std.specs.Prelude.{ℕ, ◌+◌, ◌≡◌, Bool}
+use Rattle.std.specs.Prelude.{ℕ, ◌+◌, ◌≡◌, Bool, List}
 use Rattle.numbers.specs.Sums.{sum_in}
-use Rattle.rooms.specs.Room.{crossing, SamePairs}
+use Rattle.rooms.specs.Room.{at, seen, crossing, SamePairs}
+use Rattle.across.specs.declared.flood.Flooding.{Flooding}
 
 pub record Drawn (n : ℕ) (room : ℕ → ℕ → ℕ) (lack : ℕ → ℕ) (room' : ℕ → ℕ → ℕ) (lack' : ℕ → ℕ) : Type 0 where
   pub account : (S : ℕ → Bool) → crossing n room S + sum_in n S lack ≡ crossing n room' S + sum_in n S lack'
   pub same : SamePairs room room'
+
+-- of a flood under way nothing but the numbers of what comes and can come change
+pub record Stays (f f' : Flooding) : Type 0 where
+  pub same_n : f'.n ≡ f.n
+  pub same_back : f'.back ≡ f.back
+  pub same_lack : f'.lack ≡ f.lack
+
+-- it goes on: it is looked at the same way, and what lacks is moved on
+pub record Goes (f f' : Flooding) (rooms rooms' : List ℕ) : Type 0 where
+  pub same_n : f'.n ≡ f.n
+  pub same_back : f'.back ≡ f.back
+  pub drawn : Drawn f.n (seen rooms f.back) (at f.lack) (seen rooms' f.back) (at f'.lack)

@@ -1,324 +1,236 @@
 // A flood: where a path would bring a unit at a time, all the levels of a search are moved through at once. Going back over them,
-// each node tries how much it can pass on to the end; going forward, at most so much comes to it; and going back again, what came to the
-// end is drawn from level to level. Each move is legal by its own least number, and settling brings all into balance again.
+// each node tries how much it can pass on to the end; going forward, at most so much comes to it; and going back again, what came
+// to the end is drawn from level to level. Each move is legal by its own least number, and settling brings all into balance
+// again.
 ghost use Rattle.std.specs.Prelude.{◌+◌, ◌*◌, ◌^◌, ◌≤◌, ◌<◌, length};
 ghost use Rattle.rooms.specs.Room.{side, at, seen, Still};
 ghost use Rattle.ways.specs.Ways.{Desk};
-ghost use Rattle.across.specs.Flood.{Drawn};
+ghost use Rattle.ways.specs.Lent.{SameLent};
+ghost use Rattle.across.specs.Flood.{Stays, Goes};
 
-use engine::settle::settle_on;
-use rooms::{Rooms, add, lesser, room_of, take};
-use ways::{push, word_at};
-use words::{both, take_first};
+use engine::settle::settle;
+use rooms::{Rooms, add, room_of, take};
+use ways::word_at;
+use words::{Members, both};
 
-// How much is left of a number after another.
-fn left(all: u32, gone: u32) -> u32
-    ensures { gone + result < 2 ^ 32 }
-{
-    if all <= gone {
-        return 0;
-    }
-    all - gone
-}
-
-// The least of three numbers.
-fn least_of(a: u32, b: u32, c: u32) -> u32
-    ensures { (result ≤ a) × (result ≤ b) × (result ≤ c) }
-{
-    lesser(a, lesser(b, c))
-}
-
-// Where steps lead from x to the nodes of a level.
-fn steps_to(ways: &[u64], back: bool, x: usize, level: u64) -> u64
-    requires { (side + side ≤ length ways.now) × (x < side) }
-{
-    both(ways[word_at(back, x)], level)
-}
-
-// The rest of a set, where something stays; else nothing.
-fn while_some(stays: u32, rest: u64) -> u64
-    ensures { result ≤ rest }
-{
-    if stays == 0 {
-        return 0;
-    }
-    rest
-}
-
-// How much of a number x can pass on to the nodes of the next level.
-fn can_pass(
-    rooms: &[u32],
-    ways: &[u64],
-    back: bool,
-    x: usize,
-    next: u64,
-    can: &[u32; Rooms::SIDE],
-    tried: u32,
-) -> u32
-    requires { (side * side ≤ length rooms.now) × (side + side ≤ length ways.now) × (x < side) }
-{
-    let mut stays = tried;
-    let mut ahead = steps_to(ways, back, x, next);
-    while 0 < ahead {
-        let split = take_first(ahead);
-        let y = split.first;
-        stays -= least_of(stays, room_of(rooms, back, x, y), can[y]);
-        ahead = while_some(stays, split.rest);
-    }
-    left(tried, stays)
-}
-
-// How much of what lacks at y can lack at x instead, at most a number.
-fn due(lack: &[u32], x: usize, y: usize, most: u32) -> u32
-    requires { (x < length lack.now) × (y < length lack.now) }
-    ensures { (result ≤ at lack.now y) × (at lack.now x + result < 2 ^ 32) }
-{
-    least_of(most, lack[y], left(Rooms::MOST, lack[x]))
-}
-
-// Moves what lacks at y, at most a number, on to x: as much is pushed from x to y.
-fn draw(
-    rooms: &mut [u32],
-    ways: &mut [u64],
+// A flood under way: how much each node can pass on to the end, how much has come to it, and how much lacks there.
+#[derive(Drop)]
+struct Flooding {
     back: bool,
     n: usize,
-    x: usize,
-    y: usize,
-    most: u32,
-    lack: &mut [u32],
-)
-    requires desk { Desk n rooms.old ways.old }
-    requires nodes { (x < side) × (y < side) × (side ≤ length lack.old) }
-    ensures desk { Desk n rooms.new ways.new }
-    ensures drawn { Drawn n (seen rooms.old back) (at lack.old) (seen rooms.new back) (at lack.new) }
-{
-    let d = lesser(due(lack, x, y, most), room_of(rooms, back, x, y));
-    if d == 0 {
-        return;
-    }
-    if x == y {
-        return;
-    }
-    push(rooms, ways, back, x, y, d);
-    take(lack, y, d);
-    add(lack, x, d);
+    can: [u32; Rooms::SIDE],
+    come: [u32; Rooms::SIDE],
+    lack: [u32; Rooms::SIDE],
 }
 
-// Passes some of what stays at x on to y, and as much of what lacks at y is moved on to x. Says how much was passed on.
-fn pass(
-    rooms: &mut [u32],
-    ways: &mut [u64],
-    back: bool,
-    n: usize,
-    x: usize,
-    y: usize,
-    stays: u32,
-    can: &[u32; Rooms::SIDE],
-    come: &mut [u32; Rooms::SIDE],
-    lack: &mut [u32],
-) -> u32
-    requires desk { Desk n rooms.old ways.old }
-    requires nodes { (x < side) × (y < side) × (side ≤ length lack.old) }
-    ensures fits { result ≤ stays }
-    ensures desk { Desk n rooms.new ways.new }
-    ensures drawn { Drawn n (seen rooms.old back) (at lack.old) (seen rooms.new back) (at lack.new) }
-{
-    let room = room_of(rooms, back, x, y);
-    let passed = least_of(stays, room, left(can[y], come[y]));
-    come[y] = come[y] + passed;
-    draw(rooms, ways, back, n, x, y, passed, lack);
-    passed
-}
-
-// Passes what has come to x on to the nodes of the next level.
-fn pass_on(
-    rooms: &mut [u32],
-    ways: &mut [u64],
-    back: bool,
-    n: usize,
-    x: usize,
-    next: u64,
-    can: &[u32; Rooms::SIDE],
-    come: &mut [u32; Rooms::SIDE],
-    lack: &mut [u32],
-)
-    requires desk { Desk n rooms.old ways.old }
-    requires nodes { (x < side) × (side ≤ length lack.old) }
-    ensures desk { Desk n rooms.new ways.new }
-    ensures drawn { Drawn n (seen rooms.old back) (at lack.old) (seen rooms.new back) (at lack.new) }
-{
-    let mut stays = come[x];
-    let mut ahead = while_some(stays, steps_to(ways, back, x, next));
-    while 0 < ahead {
-        let split = take_first(ahead);
-        let y = split.first;
-        stays -= pass(rooms, ways, back, n, x, y, stays, can, come, lack);
-        ahead = while_some(stays, split.rest);
+impl Flooding {
+    // Where steps lead from x to the nodes of a level.
+    fn steps_to(&self, desk: &ways::Desk, x: usize, level: u64) -> u64
+        requires { (side + side ≤ length desk.now.ways.now) × (x < side) }
+    {
+        both(desk.ways[word_at(self.back, x)], level)
     }
-}
 
-// Nothing has come to the nodes of a level.
-fn clear(come: &mut [u32; Rooms::SIDE], level: u64) {
-    let mut rest = level;
-    while 0 < rest {
-        let split = take_first(rest);
-        let y = split.first;
-        come[y] = 0;
-        rest = split.rest;
+    // How much of a number x can pass on to the nodes of the next level.
+    fn can_pass(&self, desk: &ways::Desk, x: usize, next: u64, most: u32) -> u32
+        requires desk { Desk self.now.n desk.now.rooms.now desk.now.ways.now }
+        requires node { x < side }
+    {
+        let mut stays = most;
+        for y in Members(self.steps_to(desk, x, next)) {
+            if stays == 0 {
+                break;
+            }
+            stays -= stays.min(desk.room(self.back, x, y)).min(self.can[y]);
+        }
+        most - stays
     }
-}
 
-// With `tried` above 0, says how much of it x can pass on; with 0, passes on what has come to x.
-fn visit(
-    rooms: &mut [u32],
-    ways: &mut [u64],
-    back: bool,
-    n: usize,
-    x: usize,
-    next: u64,
-    tried: u32,
-    can: &mut [u32; Rooms::SIDE],
-    come: &mut [u32; Rooms::SIDE],
-    lack: &mut [u32],
-)
-    requires desk { Desk n rooms.old ways.old }
-    requires nodes { (x < side) × (side ≤ length lack.old) }
-    ensures desk { Desk n rooms.new ways.new }
-    ensures drawn { Drawn n (seen rooms.old back) (at lack.old) (seen rooms.new back) (at lack.new) }
-{
-    if 0 < tried {
-        can[x] = can_pass(rooms, ways, back, x, next, can, tried);
-        return;
+    // How much of what lacks at y can be moved on to x, by what x can hold and by the room from x to y; at most a number.
+    fn due(&self, desk: &ways::Desk, x: usize, y: usize, most: u32) -> u32
+        requires desk { Desk self.now.n desk.now.rooms.now desk.now.ways.now }
+        requires nodes { (x < side) × (y < side) }
+        ensures lack { (result ≤ at self.now.lack y) × (at self.now.lack x + result < 2 ^ 32) }
+        ensures room { result ≤ seen desk.now.rooms.now self.now.back x y }
+    {
+        most.min(self.lack[y])
+            .min(u32::MAX - self.lack[x])
+            .min(desk.room(self.back, x, y))
     }
-    pass_on(rooms, ways, back, n, x, next, can, come, lack);
-}
 
-// Visits the nodes of a level; nothing has come to the next yet.
-fn visit_level(
-    rooms: &mut [u32],
-    ways: &mut [u64],
-    back: bool,
-    n: usize,
-    here: u64,
-    next: u64,
-    tried: u32,
-    can: &mut [u32; Rooms::SIDE],
-    come: &mut [u32; Rooms::SIDE],
-    lack: &mut [u32],
-)
-    requires desk { Desk n rooms.old ways.old }
-    requires lack { side ≤ length lack.old }
-    ensures desk { Desk n rooms.new ways.new }
-    ensures drawn { Drawn n (seen rooms.old back) (at lack.old) (seen rooms.new back) (at lack.new) }
-{
-    clear(come, next);
-    let mut rest = here;
-    while 0 < rest {
-        let split = take_first(rest);
-        let x = split.first;
-        visit(rooms, ways, back, n, x, next, tried, can, come, lack);
-        rest = split.rest;
+    // Moves what lacks at y, at most a number, on to x: as much is pushed from x to y.
+    fn draw(&mut self, desk: &mut ways::Desk, x: usize, y: usize, most: u32)
+        requires desk { Desk self.old.n desk.old.rooms.now desk.old.ways.now }
+        requires nodes { (x < side) × (y < side) }
+        ensures desk { Desk self.new.n desk.new.rooms.now desk.new.ways.now }
+        ensures goes { Goes self.old self.new desk.old.rooms.now desk.new.rooms.now }
+        ensures lent { SameLent desk.old desk.new }
+    {
+        let d = self.due(desk, x, y, most);
+        if d == 0 || x == y {
+            return;
+        }
+        desk.push(self.back, x, y, d);
+        take(&mut self.lack, y, d);
+        add(&mut self.lack, x, d);
     }
-}
 
-// The level that comes at a turn: from the first on, or with `down` from the last but one.
-fn level_at(last: usize, turn: usize, down: bool) -> usize
-    requires { turn < last }
-    ensures { result < last }
-{
-    if down {
-        return last - 1 - turn;
+    // Passes some of what stays at x on to y, and as much of what lacks at y is moved on to x. Says how much was passed on.
+    fn pass(&mut self, desk: &mut ways::Desk, x: usize, y: usize, stays: u32) -> u32
+        requires desk { Desk self.old.n desk.old.rooms.now desk.old.ways.now }
+        requires nodes { (x < side) × (y < side) }
+        ensures fits { result ≤ stays }
+        ensures desk { Desk self.new.n desk.new.rooms.now desk.new.ways.now }
+        ensures goes { Goes self.old self.new desk.old.rooms.now desk.new.rooms.now }
+        ensures lent { SameLent desk.old desk.new }
+    {
+        let open = self.can[y].saturating_sub(self.come[y]);
+        let passed = stays.min(desk.room(self.back, x, y)).min(open);
+        self.come[y] += passed;
+        self.draw(desk, x, y, passed);
+        passed
     }
-    turn
-}
 
-// Visits all levels but the last, from the first on, or with `down` from the last but one.
-fn visit_all(
-    rooms: &mut [u32],
-    ways: &mut [u64],
-    back: bool,
-    n: usize,
-    levels: &[u64],
-    last: usize,
-    down: bool,
-    tried: u32,
-    can: &mut [u32; Rooms::SIDE],
-    come: &mut [u32; Rooms::SIDE],
-    lack: &mut [u32],
-)
-    requires desk { Desk n rooms.old ways.old }
-    requires lists { (last < length levels.now) × (side ≤ length lack.old) }
-    ensures desk { Desk n rooms.new ways.new }
-    ensures drawn { Drawn n (seen rooms.old back) (at lack.old) (seen rooms.new back) (at lack.new) }
-{
-    let mut turn = 0;
-    while turn < last {
-        let i = level_at(last, turn, down);
-        let here = levels[i];
-        let next = levels[i + 1];
-        visit_level(rooms, ways, back, n, here, next, tried, can, come, lack);
-        turn += 1;
+    // Passes what has come to x on to the nodes of the next level.
+    fn pass_on(&mut self, desk: &mut ways::Desk, x: usize, next: u64)
+        requires desk { Desk self.old.n desk.old.rooms.now desk.old.ways.now }
+        requires node { x < side }
+        ensures desk { Desk self.new.n desk.new.rooms.now desk.new.ways.now }
+        ensures goes { Goes self.old self.new desk.old.rooms.now desk.new.rooms.now }
+        ensures lent { SameLent desk.old desk.new }
+    {
+        let mut stays = self.come[x];
+        for y in Members(self.steps_to(desk, x, next)) {
+            if stays == 0 {
+                break;
+            }
+            stays -= self.pass(desk, x, y, stays);
+        }
     }
-}
 
-// Brings of what lacks at a as much straight to b as came from a to b, and draws it through the levels back to a.
-fn pour(
-    rooms: &mut [u32],
-    ways: &mut [u64],
-    back: bool,
-    n: usize,
-    a: usize,
-    b: usize,
-    most: u32,
-    levels: &[u64],
-    last: usize,
-    lack: &mut [u32],
-)
-    requires desk { Desk n rooms.old ways.old }
-    requires nodes { (a < side) × (b < side) }
-    requires lists { (last < length levels.now) × (side ≤ length lack.old) }
-    ensures desk { Desk n rooms.new ways.new }
-    ensures drawn { Drawn n (seen rooms.old back) (at lack.old) (seen rooms.new back) (at lack.new) }
-{
-    let mut can = [0u32; Rooms::SIDE];
-    let mut come = [0u32; Rooms::SIDE];
-    can[b] = most;
-    visit_all(
-        rooms, ways, back, n, levels, last, true, most, &mut can, &mut come, lack,
-    );
-    come[a] = can[a];
-    visit_all(
-        rooms, ways, back, n, levels, last, false, 0, &mut can, &mut come, lack,
-    );
-    draw(rooms, ways, back, n, b, a, come[b], lack);
-    visit_all(
-        rooms, ways, back, n, levels, last, true, 0, &mut can, &mut come, lack,
-    );
+    // Nothing has come to the nodes of a level.
+    fn clear(&mut self, level: u64)
+        ensures { Stays self.old self.new }
+    {
+        for y in Members(level) {
+            self.come[y] = 0;
+        }
+    }
+
+    // Writes down how much of a number the nodes of a level can pass on to those of the next.
+    fn try_level(&mut self, desk: &ways::Desk, here: u64, next: u64, most: u32)
+        requires { Desk self.old.n desk.now.rooms.now desk.now.ways.now }
+        ensures { Stays self.old self.new }
+    {
+        for x in Members(here) {
+            self.can[x] = self.can_pass(desk, x, next, most);
+        }
+    }
+
+    // Passes what has come to the nodes of a level on to those of the next.
+    fn pass_level(&mut self, desk: &mut ways::Desk, here: u64, next: u64)
+        requires { Desk self.old.n desk.old.rooms.now desk.old.ways.now }
+        ensures desk { Desk self.new.n desk.new.rooms.now desk.new.ways.now }
+        ensures goes { Goes self.old self.new desk.old.rooms.now desk.new.rooms.now }
+        ensures lent { SameLent desk.old desk.new }
+    {
+        for x in Members(here) {
+            self.pass_on(desk, x, next);
+        }
+    }
+
+    // Going back, writes down how much of a number the nodes of each level can pass on to the end.
+    fn try_back(&mut self, desk: &ways::Desk, levels: &[u64], last: usize, most: u32)
+        requires desk { Desk self.old.n desk.now.rooms.now desk.now.ways.now }
+        requires last { last < length levels.now }
+        ensures { Stays self.old self.new }
+    {
+        for i in (0..last).rev() {
+            self.try_level(desk, levels[i], levels[i + 1], most);
+        }
+    }
+
+    // Going forward, passes on what has come.
+    fn pass_forward(&mut self, desk: &mut ways::Desk, levels: &[u64], last: usize)
+        requires desk { Desk self.old.n desk.old.rooms.now desk.old.ways.now }
+        requires last { last < length levels.now }
+        ensures desk { Desk self.new.n desk.new.rooms.now desk.new.ways.now }
+        ensures goes { Goes self.old self.new desk.old.rooms.now desk.new.rooms.now }
+        ensures lent { SameLent desk.old desk.new }
+    {
+        for i in 0..last {
+            self.pass_level(desk, levels[i], levels[i + 1]);
+        }
+    }
+
+    // Going back, draws what came to the end from level to level; what comes to a level is counted anew.
+    fn pass_back(&mut self, desk: &mut ways::Desk, levels: &[u64], last: usize)
+        requires desk { Desk self.old.n desk.old.rooms.now desk.old.ways.now }
+        requires last { last < length levels.now }
+        ensures desk { Desk self.new.n desk.new.rooms.now desk.new.ways.now }
+        ensures goes { Goes self.old self.new desk.old.rooms.now desk.new.rooms.now }
+        ensures lent { SameLent desk.old desk.new }
+    {
+        for i in (0..last).rev() {
+            self.clear(levels[i + 1]);
+            self.pass_level(desk, levels[i], levels[i + 1]);
+        }
+    }
+
+    // Brings of what lacks at a as much straight to b as came from a to b, and draws it through the levels back to a.
+    fn pour(
+        &mut self,
+        desk: &mut ways::Desk,
+        a: usize,
+        b: usize,
+        most: u32,
+        levels: &[u64],
+        last: usize,
+    )
+        requires desk { Desk self.old.n desk.old.rooms.now desk.old.ways.now }
+        requires nodes { (a < side) × (b < side) }
+        requires last { last < length levels.now }
+        ensures desk { Desk self.new.n desk.new.rooms.now desk.new.ways.now }
+        ensures goes { Goes self.old self.new desk.old.rooms.now desk.new.rooms.now }
+        ensures lent { SameLent desk.old desk.new }
+    {
+        self.can[b] = most;
+        self.try_back(desk, levels, last, most);
+        self.come[a] = self.can[a];
+        self.pass_forward(desk, levels, last);
+        self.draw(desk, b, a, self.come[b]);
+        self.pass_back(desk, levels, last);
+    }
 }
 
 // Floods the levels of a search from a, with b alone in the last: some of what can come through them, at most a number, is
 // brought to b and straight back. As much is over at a as lacks there, and that is settled in the end.
 pub fn flood(
-    rooms: &mut [u32],
-    ways: &mut [u64],
+    desk: &mut ways::Desk,
     back: bool,
     n: usize,
     a: usize,
     b: usize,
     most: u32,
-    levels: &mut [u64],
+    levels: &[u64],
     last: usize,
-    path: &mut [u8],
 )
-    requires desk { Desk n rooms.old ways.old }
+    requires desk { Desk n desk.old.rooms.now desk.old.ways.now }
     requires nodes { (a < n) × (b < n) }
-    requires lists { (last < length levels.old) × (side < length levels.old) × (side < length path.old) }
-    ensures desk { Desk n rooms.new ways.new }
-    ensures still { Still n (seen rooms.old back) (seen rooms.new back) }
+    requires lists { last < length levels.now }
+    ensures desk { Desk n desk.new.rooms.now desk.new.ways.now }
+    ensures still { Still n (seen desk.old.rooms.now back) (seen desk.new.rooms.now back) }
+    ensures lent { SameLent desk.old desk.new }
 {
     let mut over = [0u32; Rooms::SIDE];
     over[a] = most;
-    let mut lack = over;
-    pour(rooms, ways, back, n, a, b, most, levels, last, &mut lack);
-    settle_on(rooms, ways, back, n, &mut over, &mut lack, levels, path);
+    let mut flooding = Flooding {
+        back,
+        n,
+        can: [0u32; Rooms::SIDE],
+        come: [0u32; Rooms::SIDE],
+        lack: over,
+    };
+    flooding.pour(desk, a, b, most, levels, last);
+    settle(desk, back, n, &mut over, &mut flooding.lack);
 }

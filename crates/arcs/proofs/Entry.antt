@@ -12,7 +12,7 @@ use lib.Dec.{T as Holds}
 use lib.IntN.{ℤ}
 use lib.ListN.{length}
 use seplogic.Ra.Ura.{Ura}
-use mir.Syntax.{Callee, Width, Ty, Fn, local, value_local, named, erased, imm, mut, w32, w64, ty_int, ty_ref, place, field, deref, copy, rv_opd, addr_of, aggregate, seq, assign, call, return}
+use mir.Syntax.{Callee, Width, Ty, Fn, local, value_local, named, erased, imm, mut, w32, w64, ty_int, ty_array, ty_ref, place, field, deref, copy, rv_opd, addr_of, aggregate, seq, assign, call, return}
 use mir.Val.{Val, WT, has_ty, vint}
 use base.Logic.{SProp, ent, sep, emp, id⊢, via, fst∗, snd∗, ex_e}
 use base.Fml.{Lft, Share, Fml, ftrue, fsep, flft}
@@ -44,11 +44,14 @@ use denote.Triple.Clauses.{Clauses, Ended, closing, ensured, lasts}
 use denote.Triple.Walked.{on_exit, says, Stays, stay_none_slice, gave_slice, walk_of, Goes-none_slice, Goes-gave_slice, Walks, ends_at, walked, walk_Meets}
 use denote.Exit.{yes}
 use Rattle.arcs.specs.Taken.{flattened, cut_at, room, taken_apart, OfArcs}
-use Rattle.arcs.specs.declared.Arc.{Arc}
-use Rattle.arcs.specs.contracts.Arc as T
-use Rattle.arcs.proofs.Arc.TheLaws as TL
-use Rattle.arcs.proofs.Room.{numbers}
+use Rattle.plan.specs.declared.Arc.{Arc}
+use Rattle.plan.specs.contracts.Arc as T
+use Rattle.plan.proofs.Arc.TheLaws as TL
 use Rattle.arcs.specs.contracts.take_apart as take-apart
+
+-- a local array of so many numbers
+abbrev pub numbers : ℕ → Ty
+numbers n = ty_array (ty_int w32) n
 
 module _ (R : RattleType) (τ : Ty) where
   -- an answer's machine value has the machine's type

@@ -1,4 +1,3 @@
-pub mod Room
 pub mod Taking
 pub mod Flat
 pub mod Entry

@@ -1,7 +1,7 @@
 -- A list of arc structs as the flat list of document 01, and as it stands in a room of fixed length.
 use Rattle.std.specs.Prelude.{ℕ, zero, suc, ◌+◌, ◌*◌, ◌≡◌, cond, List, [], ◌∷◌, ltb, length, get_or, set, replicate}
 use Rattle.plan.specs.Limits.{most_arcs, arc_entries}
-use Rattle.arcs.specs.declared.Arc.{Arc}
+use Rattle.plan.specs.declared.Arc.{Arc}
 
 -- four numbers for each arc, in order
 abbrev pub flattened : List Arc → List ℕ

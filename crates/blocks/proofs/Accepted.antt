@@ -11,8 +11,8 @@ use lib.ListN.{length}
 use borrow.Author.Tests.{eqb-true, eqb-false, ltb-false, le-leb, not-false, eq-eqb, ne_eqb, le-ltb}
 use Rattle.plan.specs.Limits.{most_nodes, most_arcs}
 use Rattle.plan.specs.Plan.{Plan, WellFormed}
-use Rattle.plan.specs.Verdict.{verdict, whole, count_rules, limit_rules}
-use Rattle.plan.specs.declared.Verdict.TheVariants.{Accepted}
+use Rattle.plan.specs.declared.Fault.TheVariants.{Buffer}
+use Rattle.plan.specs.Verdict.{verdict, whole, count_rules, limit_rules, Accepted}
 use Rattle.plan.proofs.Refusals.{Clear, accepted_clear, clear_accepted, both_accepted, accepted_both, accepted_well_formed, neither}
 use Rattle.format.specs.Format.{Edition, block_size, kind_at, number_at, first_at, second_at, check_at, blocks_of, kind_of, first_count, second_count, content_end, check_of}
 use Rattle.format.specs.Held.{two, place, byte, held}
@@ -134,18 +134,18 @@ sound_accepted e file s =
 pub reading_accepted : (e : Edition) (file : List ℕ) (short : Bool) → verdict (reading_rules e file short) ≡ Accepted
     → Sound e file × (short ≡ false) × (verdict (limit_rules (held e file)) ≡ Accepted)
 reading_accepted e file short accepted =
-    let parts = both_accepted (block_rules e file) (whole 3 short ∷ limit_rules (held e file)) accepted in
-    let more = both_accepted (whole 3 short ∷ []) (limit_rules (held e file)) parts.1 in
-    (blocks_accepted e file parts.0, (accepted_clear (whole 3 short ∷ []) more.0).0 0 (omega arith), more.1)
+    let parts = both_accepted (block_rules e file) (whole Buffer short ∷ limit_rules (held e file)) accepted in
+    let more = both_accepted (whole Buffer short ∷ []) (limit_rules (held e file)) parts.1 in
+    (blocks_accepted e file parts.0, (accepted_clear (whole Buffer short ∷ []) more.0).0 0 (omega arith), more.1)
 
 pub reading_well_formed : (e : Edition) (file : List ℕ) (short : Bool) → verdict (reading_rules e file short) ≡ Accepted
     → WellFormed (held e file)
 reading_well_formed e file short accepted =
     let (sound, fits, limits) = reading_accepted e file short accepted in
     accepted_well_formed (held e file) false
-    (accepted_both (count_rules (held e file)) (whole 3 false ∷ limit_rules (held e file)) (counted_accepted (held e file) sound.counts) limits)
+    (accepted_both (count_rules (held e file)) (whole Buffer false ∷ limit_rules (held e file)) (counted_accepted (held e file) sound.counts) limits)
 
 pub accepted_reading : (e : Edition) (file : List ℕ) → Sound e file → verdict (limit_rules (held e file)) ≡ Accepted
     → {short : Bool} → short ≡ false → verdict (reading_rules e file short) ≡ Accepted
 accepted_reading e file s limits {short} fits =
-    accepted_both (block_rules e file) (whole 3 short ∷ limit_rules (held e file)) (sound_accepted e file s) (rw fits limits)
+    accepted_both (block_rules e file) (whole Buffer short ∷ limit_rules (held e file)) (sound_accepted e file s) (rw fits limits)

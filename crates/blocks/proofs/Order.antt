@@ -7,10 +7,11 @@ use mathlib.Core.List.{List, [], ◌∷◌, ◌++◌}
 use native.Mathlib.Omega.{arith}
 use lib.Dec.{leb}
 use borrow.Author.Tests.{lt-leb, le-leb, eq-eqb, ne_eqb, leb-false}
-use Rattle.plan.specs.Verdict.{Rule, Lowest, lowest, verdict, whole, count_rules, limit_rules}
-use Rattle.plan.specs.declared.Verdict.{Verdict}
-use Rattle.plan.specs.declared.Verdict.TheVariants.{Accepted, Refused}
-use Rattle.plan.proofs.Refusals.{before_refused, before_accepted, both_accepted, lowest_at, lowest_past, accepted_clear}
+use Rattle.std.specs.Prelude.{Ok, Err}
+use Rattle.plan.specs.declared.Fault.TheVariants.{Buffer, Missing, FileLength, FileCheck, FileLabel, FileContent}
+use Rattle.plan.specs.declared.Refusal.{Refusal}
+use Rattle.plan.specs.Verdict.{Rule, lowest, verdict, whole, count_rules, limit_rules, Verdict, Accepted, Refused}
+use Rattle.plan.proofs.Refusals.{before_refused, before_accepted, both_accepted, rule_refuses, rule_passes, accepted_clear}
 use Rattle.format.specs.Format.{Edition, blocks_of}
 use Rattle.format.specs.Held.{held}
 use Rattle.blocks.specs.Rules.{blocks_in, length_wrong, check_wrong, label_wrong, content_wrong, shape_rules, content_rules, block_rules, reading_rules, payload_rules}
@@ -18,38 +19,35 @@ use Rattle.blocks.specs.Rules.{blocks_in, length_wrong, check_wrong, label_wrong
 -- ---- 11, 12, 13
 
 module _ (e : Edition) (file : List ℕ) where
-  pub length_refused : length_wrong e file ≡ true → Refused 11 0 ≡ verdict (shape_rules e file)
+  abbrev checks : Rule
+  checks = record { fault = FileCheck; places = blocks_in file; concerns = check_wrong file }
+
+  abbrev labels : Rule
+  labels = record { fault = FileLabel; places = blocks_in file; concerns = label_wrong e file }
+
+  pub length_refused : length_wrong e file ≡ true → Refused FileLength 0 ≡ verdict (shape_rules e file)
   length_refused wrong = rw wrong
 
-  module _ (right : length_wrong e file ≡ false) {check : ℕ} (checks : Lowest (check_wrong file) (blocks_in file) check) where
-    pub check_refused : check < blocks_in file → Refused 12 check ≡ verdict (shape_rules e file)
-    check_refused here = rw right (lowest_at 12 (check_wrong file) (blocks_in file) check _ checks here)
+  module _ (right : length_wrong e file ≡ false) where
+    past_length : verdict (shape_rules e file) ≡ verdict (checks ∷ labels ∷ [])
+    past_length = rw right
 
-    module _ (no_check : blocks_in file ≤ check) {label : ℕ} (labels : Lowest (label_wrong e file) (blocks_in file) label) where
-      past_checks : (v : Verdict) → lowest 12 (check_wrong file) (blocks_in file) v ≡ v
-      past_checks v = lowest_past 12 (check_wrong file) (blocks_in file) check v checks no_check
+    pub check_refused : {r : Refusal} → Err r ≡ lowest FileCheck (check_wrong file) (blocks_in file) Accepted → Err r ≡ verdict (shape_rules e file)
+    check_refused is = rule_refuses checks (labels ∷ []) is ∙ sym past_length
 
-      pub label_refused : label < blocks_in file → Refused 13 label ≡ verdict (shape_rules e file)
-      label_refused here = rw (right, past_checks) (lowest_at 13 (label_wrong e file) (blocks_in file) label _ labels here)
-
-      pub shape_passes : blocks_in file ≤ label → Accepted ≡ verdict (shape_rules e file)
-      shape_passes no_label =
-          rw (right, past_checks) (sym (lowest_past 13 (label_wrong e file) (blocks_in file) label Accepted labels no_label))
+    pub labels_decide : (u : Unit {0}) → Ok u ≡ lowest FileCheck (check_wrong file) (blocks_in file) Accepted
+        → lowest FileLabel (label_wrong e file) (blocks_in file) Accepted ≡ verdict (shape_rules e file)
+    labels_decide u none = sym (past_length ∙ rule_passes checks (labels ∷ []) u none)
 
 -- ---- 14
 
 module _ (e : Edition) (nodes arcs : ℕ) (file : List ℕ) where
-  pub blocks_refused : (blocks_in file ≡ blocks_of e arcs → ⊥) → Refused 14 0 ≡ verdict (content_rules e nodes arcs file)
+  pub blocks_refused : (blocks_in file ≡ blocks_of e arcs → ⊥) → Refused FileContent 0 ≡ verdict (content_rules e nodes arcs file)
   blocks_refused other = rw (ne_eqb (blocks_in file) (blocks_of e arcs) other)
 
-  module _ (same : blocks_in file ≡ blocks_of e arcs) {content : ℕ} (contents : Lowest (content_wrong e nodes arcs file) (blocks_in file) content) where
-    pub content_refused : content < blocks_in file → Refused 14 content ≡ verdict (content_rules e nodes arcs file)
-    content_refused here =
-        rw (eq-eqb (blocks_in file) (blocks_of e arcs) same) (lowest_at 14 (content_wrong e nodes arcs file) (blocks_in file) content _ contents here)
-
-    pub content_passes : blocks_in file ≤ content → Accepted ≡ verdict (content_rules e nodes arcs file)
-    content_passes none = rw (eq-eqb (blocks_in file) (blocks_of e arcs) same)
-        (sym (lowest_past 14 (content_wrong e nodes arcs file) (blocks_in file) content Accepted contents none))
+  pub contents_decide : blocks_in file ≡ blocks_of e arcs
+      → lowest FileContent (content_wrong e nodes arcs file) (blocks_in file) Accepted ≡ verdict (content_rules e nodes arcs file)
+  contents_decide same = sym (rw (eq-eqb (blocks_in file) (blocks_of e arcs) same))
 
 -- ---- all of them, up to the buffers
 
@@ -57,11 +55,11 @@ module _ (e : Edition) (file : List ℕ) where
   abbrev later : List Rule
   later = count_rules (held e file) ++ content_rules e (held e file).nodes (held e file).arcs file
 
-  pub shape_turns_down : {v : Verdict} {n i : ℕ} → v ≡ verdict (shape_rules e file) → v ≡ Refused n i → Refused n i ≡ verdict (block_rules e file)
+  pub shape_turns_down : {v : Verdict} {r : Refusal} → v ≡ verdict (shape_rules e file) → v ≡ Err r → Err r ≡ verdict (block_rules e file)
   shape_turns_down = before_refused (shape_rules e file) later
 
   module _ {v : Verdict} (shape : v ≡ verdict (shape_rules e file)) (passed : v ≡ Accepted) {u : Verdict} (counts : u ≡ verdict (count_rules (held e file))) where
-    pub counts_turn_down : {n i : ℕ} → u ≡ Refused n i → Refused n i ≡ verdict (block_rules e file)
+    pub counts_turn_down : {r : Refusal} → u ≡ Err r → Err r ≡ verdict (block_rules e file)
     counts_turn_down down =
         before_refused (count_rules (held e file)) (content_rules e (held e file).nodes (held e file).arcs file) counts down
         ∙ sym (before_accepted (shape_rules e file) later shape passed)
@@ -76,13 +74,13 @@ module _ (e : Edition) (file : List ℕ) where
 
 module _ (e : Edition) (file : List ℕ) (short : Bool) {v : Verdict} (blocks : v ≡ verdict (block_rules e file)) where
   abbrev buffers_on : List Rule
-  buffers_on = whole 3 short ∷ limit_rules (held e file)
+  buffers_on = whole Buffer short ∷ limit_rules (held e file)
 
-  pub blocks_turn_down : {n i : ℕ} → v ≡ Refused n i → verdict (reading_rules e file short) ≡ Refused n i
+  pub blocks_turn_down : {r : Refusal} → v ≡ Err r → verdict (reading_rules e file short) ≡ Err r
   blocks_turn_down down = sym (before_refused (block_rules e file) buffers_on blocks down)
 
   module _ (passed : v ≡ Accepted) where
-    pub buffers_turn_down : short ≡ true → verdict (reading_rules e file short) ≡ Refused 3 0
+    pub buffers_turn_down : short ≡ true → verdict (reading_rules e file short) ≡ Refused Buffer 0
     buffers_turn_down is = before_accepted (block_rules e file) buffers_on blocks passed ∙ rw is
 
     pub limits_decide : {w : Verdict} → short ≡ false → w ≡ verdict (limit_rules (held e file)) → verdict (reading_rules e file short) ≡ w
@@ -92,14 +90,14 @@ module _ (e : Edition) (file : List ℕ) (short : Bool) {v : Verdict} (blocks : 
 
 module _ (e : Edition) (file : List ℕ) (block : ℕ) where
   abbrev missing : List Rule
-  missing = whole 8 (leb (blocks_in file) block) ∷ []
+  missing = whole Missing (leb (blocks_in file) block) ∷ []
 
   module _ {v : Verdict} (read : v ≡ verdict (reading_rules e file false)) where
-    pub file_turns_down : {n i : ℕ} → v ≡ Refused n i → Refused n i ≡ verdict (payload_rules e file block)
+    pub file_turns_down : {r : Refusal} → v ≡ Err r → Err r ≡ verdict (payload_rules e file block)
     file_turns_down = before_refused (reading_rules e file false) missing read
 
     module _ (passed : v ≡ Accepted) where
-      pub missing_turns_down : blocks_in file ≤ block → Refused 8 0 ≡ verdict (payload_rules e file block)
+      pub missing_turns_down : blocks_in file ≤ block → Refused Missing 0 ≡ verdict (payload_rules e file block)
       missing_turns_down past =
           sym (before_accepted (reading_rules e file false) missing read passed ∙ rw (le-leb (blocks_in file) block past))
 

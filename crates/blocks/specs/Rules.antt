@@ -1,7 +1,7 @@
 -- What a file is turned down for: document 01's rules for reading, in their order, and those of a request for a block.
 use Rattle.std.specs.Prelude.{ℕ, zero, suc, ◌/◌, ◌%◌, ◌≡◌, Bool, false, ◌||◌, ◌&&◌, not, List, [], ◌∷◌, ◌++◌, leb, ltb, eqb, length}
-use Rattle.plan.specs.Verdict.{Rule, whole, verdict, count_rules, limit_rules}
-use Rattle.plan.specs.declared.Verdict.TheVariants.{Accepted}
+use Rattle.plan.specs.declared.Fault.TheVariants.{Buffer, Missing, FileLength, FileCheck, FileLabel, FileContent}
+use Rattle.plan.specs.Verdict.{Rule, whole, verdict, count_rules, limit_rules, Accepted}
 use Rattle.format.specs.Format.{Edition, block_size, kind_at, number_at, first_at, second_at, check_at, blocks_of, kind_of, first_count, second_count, content_end, check_of}
 use Rattle.format.specs.Held.{two, place, byte, held}
 
@@ -39,16 +39,16 @@ content_wrong e nodes arcs file b = counts_wrong e nodes arcs file b || unused_w
 -- 11; 12 and 13 with the lowest block
 abbrev pub shape_rules : Edition → List ℕ → List Rule
 shape_rules e file =
-    whole 11 (length_wrong e file)
-    ∷ record { number = 12; places = blocks_in file; concerns = check_wrong file }
-    ∷ record { number = 13; places = blocks_in file; concerns = label_wrong e file }
+    whole FileLength (length_wrong e file)
+    ∷ record { fault = FileCheck; places = blocks_in file; concerns = check_wrong file }
+    ∷ record { fault = FileLabel; places = blocks_in file; concerns = label_wrong e file }
     ∷ []
 
 -- 14: the number of blocks first, then the lowest block with a wrong count or an unused byte
 abbrev pub content_rules : Edition → (nodes arcs : ℕ) → List ℕ → List Rule
 content_rules e nodes arcs file =
-    whole 14 (not (eqb (blocks_in file) (blocks_of e arcs)))
-    ∷ record { number = 14; places = blocks_in file; concerns = content_wrong e nodes arcs file }
+    whole FileContent (not (eqb (blocks_in file) (blocks_of e arcs)))
+    ∷ record { fault = FileContent; places = blocks_in file; concerns = content_wrong e nodes arcs file }
     ∷ []
 
 -- what is looked at before the buffers: 11, 12, 13, 1, 2, 14
@@ -57,7 +57,7 @@ block_rules e file = shape_rules e file ++ (count_rules (held e file) ++ content
 
 -- for reading: 11, 12, 13, 1, 2, 14, 3, 4, 5, 6, 7
 abbrev pub reading_rules : Edition → List ℕ → (short : Bool) → List Rule
-reading_rules e file short = block_rules e file ++ (whole 3 short ∷ limit_rules (held e file))
+reading_rules e file short = block_rules e file ++ (whole Buffer short ∷ limit_rules (held e file))
 
 -- reading it into buffers that are long enough gives no number
 pub record FileAccepted (e : Edition) (file : List ℕ) : Type 0 where
@@ -65,4 +65,4 @@ pub record FileAccepted (e : Edition) (file : List ℕ) : Type 0 where
 
 -- for a request about a block: the file's own number, then 8 where there is no such block
 abbrev pub payload_rules : Edition → List ℕ → (block : ℕ) → List Rule
-payload_rules e file block = reading_rules e file false ++ (whole 8 (leb (blocks_in file) block) ∷ [])
+payload_rules e file block = reading_rules e file false ++ (whole Missing (leb (blocks_in file) block) ∷ [])

@@ -4,28 +4,22 @@
 
 ghost use Rattle.std.specs.Prelude.{◌≡◌, ◌≤◌, ◌<◌, ◌/◌, length};
 ghost use Rattle.plan.specs.Limits.{most_nodes, most_arcs};
-ghost use Rattle.plan.specs.Verdict.{Lowest, verdict};
+ghost use Rattle.plan.specs.Verdict.{verdict};
 ghost use Rattle.format.specs.Format.{first_edition};
 ghost use Rattle.blocks.specs.Rules.{length_wrong, check_wrong, label_wrong, unused_wrong, content_wrong, blocks_in, shape_rules, content_rules, block_rules};
 
-use format::bytes::{two, wide};
+use format::bytes::two;
 use format::layout::{block_of, blocks_of, check_of, kind_of};
 use format::{Block, Edition};
 use network::check_counts;
-use plan::Verdict;
+use plan::{Fault, Refusal, Verdict, refuse};
 
 // The file's length is 0, above the longest, or not in whole blocks.
 fn length_wrong(file: &[u8]) -> bool
     ensures { result ≡ length_wrong first_edition file.now }
 {
     let length = file.len();
-    if length == 0 {
-        return true;
-    }
-    if Edition::LONGEST < length {
-        return true;
-    }
-    length % Block::SIZE != 0
+    length == 0 || Edition::LONGEST < length || length % Block::SIZE != 0
 }
 
 // The check of block b is not the sum over its bytes.
@@ -41,10 +35,8 @@ fn label_wrong(file: &[u8], b: usize) -> bool
     requires { b < blocks_in file.now }
     ensures { result ≡ label_wrong first_edition file.now b }
 {
-    if file[b * Block::SIZE + Block::KIND_AT] != kind_of(b) {
-        return true;
-    }
-    wide(file[b * Block::SIZE + Block::NUMBER_AT]) != b
+    let at = b * Block::SIZE;
+    file[at + Block::KIND_AT] != kind_of(b) || usize::from(file[at + Block::NUMBER_AT]) != b
 }
 
 // A byte of block b from `end` to its check is not 0.
@@ -52,12 +44,10 @@ fn unused_wrong(file: &[u8], b: usize, end: usize) -> bool
     requires { b < blocks_in file.now }
     ensures { result ≡ unused_wrong end file.now b }
 {
-    let mut i = end;
-    while i < Block::CHECK_AT {
+    for i in end..Block::CHECK_AT {
         if file[b * Block::SIZE + i] != 0 {
             return true;
         }
-        i += 1;
     }
     false
 }
@@ -69,59 +59,10 @@ fn content_wrong(file: &[u8], nodes: usize, arcs: usize, b: usize) -> bool
     ensures { result ≡ content_wrong first_edition nodes arcs file.now b }
 {
     let block = block_of(nodes, arcs, b);
-    if two(file, b * Block::SIZE + Block::FIRST_AT) != block.first {
-        return true;
-    }
-    if two(file, b * Block::SIZE + Block::SECOND_AT) != block.second {
-        return true;
-    }
-    unused_wrong(file, b, block.end)
-}
-
-// The lowest block with a wrong check, or the number of blocks.
-fn lowest_wrong_check(file: &[u8]) -> usize
-    ensures { Lowest (check_wrong file.now) (blocks_in file.now) result }
-{
-    let count = file.len() / Block::SIZE;
-    let mut b = 0;
-    while b < count {
-        if check_wrong(file, b) {
-            return b;
-        }
-        b += 1;
-    }
-    b
-}
-
-// The lowest block with a wrong kind or number, or the number of blocks.
-fn lowest_wrong_label(file: &[u8]) -> usize
-    ensures { Lowest (label_wrong first_edition file.now) (blocks_in file.now) result }
-{
-    let count = file.len() / Block::SIZE;
-    let mut b = 0;
-    while b < count {
-        if label_wrong(file, b) {
-            return b;
-        }
-        b += 1;
-    }
-    b
-}
-
-// The lowest block with a wrong count or an unused byte that is not 0, or the number of blocks.
-fn lowest_wrong_content(file: &[u8], nodes: usize, arcs: usize) -> usize
-    requires { (blocks_in file.now ≤ 256) × (nodes ≤ most_nodes) }
-    ensures { Lowest (content_wrong first_edition nodes arcs file.now) (blocks_in file.now) result }
-{
-    let count = file.len() / Block::SIZE;
-    let mut b = 0;
-    while b < count {
-        if content_wrong(file, nodes, arcs, b) {
-            return b;
-        }
-        b += 1;
-    }
-    b
+    let at = b * Block::SIZE;
+    two(file, at + Block::FIRST_AT) != block.first
+        || two(file, at + Block::SECOND_AT) != block.second
+        || unused_wrong(file, b, block.end)
 }
 
 // The verdict by the numbers 11, 12 and 13: the file's length, each block's check, its kind and number.
@@ -129,18 +70,11 @@ fn check_shape(file: &[u8]) -> Verdict
     ensures { result ≡ verdict (shape_rules first_edition file.now) }
 {
     if length_wrong(file) {
-        return Verdict::Refused(11, 0);
+        return Err(Refusal::whole(Fault::FileLength));
     }
     let count = file.len() / Block::SIZE;
-    let check = lowest_wrong_check(file);
-    if check < count {
-        return Verdict::Refused(12, check);
-    }
-    let label = lowest_wrong_label(file);
-    if label < count {
-        return Verdict::Refused(13, label);
-    }
-    Verdict::Accepted
+    refuse(Fault::FileCheck, count, |b| check_wrong(file, b))?;
+    refuse(Fault::FileLabel, count, |b| label_wrong(file, b))
 }
 
 // The verdict by the number 14: how many blocks there are, then what each says of itself.
@@ -150,26 +84,22 @@ fn check_content(file: &[u8], nodes: usize, arcs: usize) -> Verdict
 {
     let count = file.len() / Block::SIZE;
     if count != blocks_of(arcs) {
-        return Verdict::Refused(14, 0);
+        return Err(Refusal::whole(Fault::FileContent));
     }
-    let content = lowest_wrong_content(file, nodes, arcs);
-    if content < count {
-        return Verdict::Refused(14, content);
-    }
-    Verdict::Accepted
+    refuse(
+        Fault::FileContent,
+        count,
+        |b| content_wrong(file, nodes, arcs, b),
+    )
 }
 
 // The verdict on a file before any buffer is looked at: 11, 12, 13, 1, 2, 14.
 pub fn check_blocks(file: &[u8]) -> Verdict
     ensures { result ≡ verdict (block_rules first_edition file.now) }
 {
-    if let Verdict::Refused(number, index) = check_shape(file) {
-        return Verdict::Refused(number, index);
-    }
+    check_shape(file)?;
     let nodes = two(file, Block::FIRST_AT);
     let arcs = two(file, Block::SECOND_AT);
-    if let Verdict::Refused(number, index) = check_counts(nodes, arcs) {
-        return Verdict::Refused(number, index);
-    }
+    check_counts(nodes, arcs)?;
     check_content(file, nodes, arcs)
 }

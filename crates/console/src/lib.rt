@@ -7,41 +7,33 @@ ghost use Rattle.console.specs.Input.{Held};
 use std::io;
 use std::io::{Print, Read};
 
-// How many bytes of the buffer the input takes; or a read failed, and nothing counts as read.
-#[derive(Clone, Copy)]
-pub enum Input {
-    Whole(usize),
-    Failed,
-}
-
 // Tells a failure in one line, under the name given. Where that fails too, there is nobody left to tell.
 fn tell<E: Print>(told: &E, what: &str, error: io::Error) {
-    match println!(told; "{what}: {error}") {
-        Ok(()) => {}
-        Err(_) => {}
-    }
+    let _ = println!(told; "{what}: {error}");
 }
 
-// The input to its end, or until the buffer is full. A read that fails is told apart from the end of the input: it is
-// told in a line, under the name given.
-pub fn read_whole<R: Read, E: Print>(from: &mut R, told: &E, buffer: &mut [u8], what: &str) -> Input
+// The input to its end, or until the buffer is full: how many bytes of the buffer it takes. A read that fails is told apart from
+// the end of the input: it is told in a line, under the name given, and nothing counts as read.
+pub fn read_whole<R: Read, E: Print>(
+    from: &mut R,
+    told: &E,
+    buffer: &mut [u8],
+    what: &str,
+) -> Option<usize>
     ensures { Held result buffer.new }
 {
     let mut done = 0;
     while done < buffer.len() {
-        let more = match from.read(&mut buffer[done..]) {
-            Ok(more) => more,
+        match from.read(&mut buffer[done..]) {
+            Ok(0) => break,
+            Ok(more) => done += more,
             Err(error) => {
                 tell(told, what, error);
-                return Input::Failed;
+                return None;
             }
-        };
-        if more == 0 {
-            return Input::Whole(done);
         }
-        done += more;
     }
-    Input::Whole(done)
+    Some(done)
 }
 
 // All of the text; or what failed is told in a line, under the name given.

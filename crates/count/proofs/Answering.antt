@@ -13,12 +13,13 @@ use borrow.Author.Tests.{ltb-true, ltb-false, lt-ltb}
 use Rattle.rooms.specs.Room.{at}
 use Rattle.plan.specs.Plan.{WellFormed}
 use Rattle.plan.specs.Flow.{Narrowed}
-use Rattle.plan.specs.Verdict.{verdict}
-use Rattle.plan.specs.declared.Verdict.TheVariants.{Accepted}
+use Rattle.std.specs.Prelude.{Err}
+use Rattle.plan.specs.declared.Fault.TheVariants.{Buffer}
+use Rattle.plan.specs.declared.No.{No}
+use Rattle.plan.specs.declared.No.TheVariants.{Short, Refused}
+use Rattle.plan.specs.Verdict.{verdict, Accepted}
 use Rattle.plan.proofs.Refusals.{last_accepted, neither}
 use Rattle.lists.specs.Written.{Written}
-use Rattle.flow.specs.declared.Answer.{Answer}
-use Rattle.flow.specs.declared.Answer.TheVariants.{Runs, Short, Refused}
 use Rattle.narrow.specs.Answer.{Ranges, NarrowAnswers}
 use Rattle.words.specs.Word.{holds}
 use Rattle.counting.specs.Counting.{Counting, counting_of, Taken}
@@ -36,7 +37,7 @@ use Rattle.count.proofs.Asked.{not_refused}
 module _ (domains counts : List ℕ) (b : Buffers) (accepted : judged domains counts b ≡ Accepted) where
   passed : (verdict (counting_rules domains (counting_of domains counts)) ≡ Accepted)
       × (buffers_short (counting_of domains counts) b ≡ false)
-  passed = last_accepted (counting_rules domains (counting_of domains counts)) 3 (buffers_short (counting_of domains counts) b) accepted
+  passed = last_accepted (counting_rules domains (counting_of domains counts)) Buffer (buffers_short (counting_of domains counts) b) accepted
 
   pub judged_network : WellFormed (network (counting_of domains counts))
   judged_network = accepted_network domains (counting_of domains counts) passed.0
@@ -89,15 +90,13 @@ module _ (c : Counting) (b b' : Buffers) {lows highs lows' highs' : List ℕ} (r
     highs_past = most.past;
   }
 
--- ---- the two ways out
+-- ---- the way out
 
 module _ (domains counts : List ℕ) (b : Buffers) (accepted : judged domains counts b ≡ Accepted) {lows highs lows' highs' : List ℕ} where
-  -- narrowing answered other than that the network runs
-  pub left_early : (r : Answer) → (r ≡ Runs → ⊥)
-      → (network (counting_of domains counts)).arcs ≤ length lows → (network (counting_of domains counts)).arcs ≤ length highs
-      → NarrowAnswers (network (counting_of domains counts)) lows highs lows' highs' r → CountAnswers domains counts b b r
-  left_early Runs other low_fits high_fits said = absurd (other refl)
-  left_early (Short value) other low_fits high_fits said =
+  -- narrowing answered that the network does not run
+  pub left_early : (no : No) → (network (counting_of domains counts)).arcs ≤ length lows → (network (counting_of domains counts)).arcs ≤ length highs
+      → NarrowAnswers (network (counting_of domains counts)) lows highs lows' highs' (Err no) → CountAnswers domains counts b b (Err no)
+  left_early (Short value) low_fits high_fits said =
       record { says = (accepted, said.says.1.0, refl); domains_length = refl; lows_length = refl; highs_length = refl }
-  left_early (Refused n i) other low_fits high_fits said =
+  left_early (Refused refusal) low_fits high_fits said =
       absurd (not_refused (judged_network domains counts b accepted) low_fits high_fits said)

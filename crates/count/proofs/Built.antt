@@ -1,11 +1,12 @@
 -- The word of a new domain, built bit by bit from the last value down.
 use Prim.Native.Nat.{ℕ, zero, suc, ◌+◌, ◌-◌, ◌*◌, ◌/◌, ◌%◌, ◌^◌, ◌≤◌, ◌<◌}
-use mathlib.Core.Path.{◌≡◌, ap, subst, ◌∙◌}
+use mathlib.Core.Path.{◌≡◌, refl, ap, subst, ◌∙◌}
 use mathlib.Core.Bool.{Bool, true, false, ◌&&◌}
 use mathlib.Core.List.{List}
 use native.Mathlib.Omega.{arith}
-use native.Mathlib.Nat.{one-le-pow, pow-le-pow_right, two-pow-succ, zero-add, add-zero}
+use native.Mathlib.Nat.{one-le-pow, two-pow-succ, zero-add, add-zero}
 use lib.Dec.{eqb, ltb}
+use mir.Val.{bool_byte}
 use borrow.Author.Tests.{lt-ltb, le-ltb, eq-eqb, ne_eqb}
 use Rattle.numbers.specs.Sums.{only}
 use Rattle.rooms.specs.Room.{at}
@@ -25,9 +26,10 @@ built_none w = record {
   small = one-le-pow (w - w) 2 (omega arith);
 }
 
--- one bit more keeps within a word
-pub built_fits : {highs : List ℕ} {start w j word : ℕ} → Built highs start w j word → 1 ≤ j → w < 64 → word * 2 + 1 < 2 ^ 64
-built_fits {w = w} {j} b some few = omega (arith, b.small, pow-le-pow_right {n = 2} (omega arith) {i = w - j} {j = 62} (omega arith))
+-- a test as a number
+pub test_number : (t : Bool) → bool_byte t ≡ only t 1
+test_number true = refl
+test_number false = refl
 
 built_next : {highs : List ℕ} {start w j word : ℕ} → j < w → Built highs start w (suc j) word
     → Built highs start w j (word * 2 + only (ltb 0 (at highs (start + j))) 1)

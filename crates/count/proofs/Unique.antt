@@ -11,15 +11,14 @@ use lib.ListN.{length}
 use Rattle.rooms.specs.Room.{at}
 use Rattle.plan.specs.Plan.{Set}
 use Rattle.plan.specs.Shortage.{ShortBy}
-use Rattle.plan.specs.declared.Verdict.{Verdict}
-use Rattle.plan.specs.declared.Verdict.TheVariants.{Accepted, Refused as TurnedDown}
+use Rattle.plan.specs.Verdict.{Verdict, Accepted}
 use Rattle.plan.proofs.Refusals.{accepted_or_refused}
 use Rattle.plan.proofs.Unique.{short_by_unique, short_or_flow}
 use Rattle.lists.proofs.Entries.{one_content, entries_unique}
 use Rattle.lists.proofs.Arcs.{arcs_unique}
-use Rattle.flow.specs.Answer.{number}
-use Rattle.flow.specs.declared.Answer.{Answer}
-use Rattle.flow.specs.declared.Answer.TheVariants.{Runs, Short, Refused}
+use Rattle.std.specs.Prelude.{Ok, Err}
+use Rattle.plan.specs.declared.No.TheVariants.{Short, Refused}
+use Rattle.flow.specs.Answer.{Answer, number}
 use Rattle.counting.specs.Counting.{Counting, counting_of, Assignment, FewestUses, MostUses}
 use Rattle.counting.specs.Network.{network}
 use Rattle.count.specs.Answer.{NetworkAnswers, Handed, Buffers, judged, Counted, CountAnswers}
@@ -74,36 +73,36 @@ module _ (domains counts : List ℕ) (b : Buffers) where
 
   pub count_answers_unique : {x y : Buffers} (r r' : Answer)
       → CountAnswers domains counts b x r → CountAnswers domains counts b y r' → (r ≡ r') × (x ≡ y)
-  count_answers_unique Runs Runs f g = (
+  count_answers_unique (Ok u) (Ok u') f g = (
     refl,
     counted_unique f.says.1 g.says.1 f.domains_length g.domains_length f.lows_length g.lows_length
         f.highs_length g.highs_length,
   )
-  count_answers_unique Runs (Short v) f g = absurd (assigned_or_short f.says.0 f.says.1.assignment g.says.1)
-  count_answers_unique Runs (Refused m i) f g = absurd (accepted_or_refused f.says.0 g.says.0)
-  count_answers_unique (Short v) Runs f g = absurd (assigned_or_short f.says.0 g.says.1.assignment f.says.1)
-  count_answers_unique (Short v) (Short v') f g =
-      (ap Short (short_by_unique f.says.1.1 g.says.1.1), f.says.2 ∙ sym g.says.2)
-  count_answers_unique (Short v) (Refused m i) f g = absurd (accepted_or_refused f.says.0 g.says.0)
-  count_answers_unique (Refused m i) Runs f g = absurd (accepted_or_refused g.says.0 f.says.0)
-  count_answers_unique (Refused m i) (Short v) f g = absurd (accepted_or_refused g.says.0 f.says.0)
-  count_answers_unique (Refused m i) (Refused m' i') f g = (cc (f.says.0, g.says.0), f.says.1 ∙ sym g.says.1)
+  count_answers_unique (Ok u) (Err (Short v)) f g = absurd (assigned_or_short f.says.0 f.says.1.assignment g.says.1)
+  count_answers_unique (Ok u) (Err (Refused r)) f g = absurd (accepted_or_refused f.says.0 g.says.0)
+  count_answers_unique (Err (Short v)) (Ok u) f g = absurd (assigned_or_short f.says.0 g.says.1.assignment f.says.1)
+  count_answers_unique (Err (Short v)) (Err (Short v')) f g =
+      (ap (λ v. Err (Short v)) (short_by_unique f.says.1.1 g.says.1.1), f.says.2 ∙ sym g.says.2)
+  count_answers_unique (Err (Short v)) (Err (Refused r)) f g = absurd (accepted_or_refused f.says.0 g.says.0)
+  count_answers_unique (Err (Refused r)) (Ok u) f g = absurd (accepted_or_refused g.says.0 f.says.0)
+  count_answers_unique (Err (Refused r)) (Err (Short v)) f g = absurd (accepted_or_refused g.says.0 f.says.0)
+  count_answers_unique (Err (Refused r)) (Err (Refused r')) f g = (cc (f.says.0, g.says.0), f.says.1 ∙ sym g.says.1)
 
   -- an accepted counting plan gets number 9 exactly if it has no assignment
   pub count_no_exactly_if_no_assignment : {x : Buffers} (r : Answer) → judged domains counts b ≡ Accepted
       → CountAnswers domains counts b x r → (number r ≡ 9) ↔ ((a : ℕ → ℕ) → Assignment (counting_of domains counts) a → ⊥)
-  count_no_exactly_if_no_assignment Runs e f =
+  count_no_exactly_if_no_assignment (Ok u) e f =
       (λ no. absurd (omega arith), λ none. absurd (none f.says.1.values f.says.1.assignment))
-  count_no_exactly_if_no_assignment (Short v) e f = (λ no a s. assigned_or_short e s f.says.1, λ none. refl)
-  count_no_exactly_if_no_assignment (Refused m i) e f = absurd (accepted_or_refused e f.says.0)
+  count_no_exactly_if_no_assignment (Err (Short v)) e f = (λ no a s. assigned_or_short e s f.says.1, λ none. refl)
+  count_no_exactly_if_no_assignment (Err (Refused r)) e f = absurd (accepted_or_refused e f.says.0)
 
 -- ---- the network, handed out
 
 module _ (domains counts : List ℕ) (supplies : List ℤ) (arcs : List ℕ) where
   handed_unique : {s s' : List ℤ} {a a' : List ℕ} (v : Verdict) → Handed (counting_of domains counts) supplies arcs s a v
       → Handed (counting_of domains counts) supplies arcs s' a' v → (s ≡ s') × (a ≡ a')
-  handed_unique Accepted f g = (entries_unique f.0 g.0, arcs_unique f.1 g.1)
-  handed_unique (TurnedDown n i) f g = (f.0 ∙ sym g.0, f.1 ∙ sym g.1)
+  handed_unique (Ok u) f g = (entries_unique f.0 g.0, arcs_unique f.1 g.1)
+  handed_unique (Err r) f g = (f.0 ∙ sym g.0, f.1 ∙ sym g.1)
 
   pub network_answers_unique : {s s' : List ℤ} {a a' : List ℕ} {r r' : Verdict} → NetworkAnswers domains counts supplies arcs s a r
       → NetworkAnswers domains counts supplies arcs s' a' r' → (r ≡ r') × (s ≡ s') × (a ≡ a')

@@ -16,8 +16,7 @@ use borrow.Author.Tests.{ne_eqb, eq-eqb}
 use Rattle.numbers.specs.Sums.{only, put}
 use Rattle.numbers.proofs.Sums.{sum_same, last_or_before}
 use Rattle.rooms.specs.Room.{at}
-use Rattle.plan.specs.Verdict.{verdict}
-use Rattle.plan.specs.declared.Verdict.TheVariants.{Accepted}
+use Rattle.plan.specs.Verdict.{verdict, Accepted}
 use Rattle.plan.proofs.Tried.{decided?, if?, each?, accepts?}
 use Rattle.plan.proofs.Worked as plans
 use Rattle.words.specs.Word.{holds}

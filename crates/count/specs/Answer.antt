@@ -1,14 +1,13 @@
 -- What the two requests of a counting plan answer, and what they leave in the lent buffers.
-use Rattle.std.specs.Prelude.{ℕ, ◌≤◌, ◌<◌, ◌≡◌, Bool, true, ◌||◌, List, [], ◌∷◌, ◌++◌, ◌↔◌, ltb, ℤ, length}
+use Rattle.std.specs.Prelude.{ℕ, ◌≤◌, ◌<◌, ◌≡◌, Bool, true, ◌||◌, List, [], ◌∷◌, ◌++◌, ◌↔◌, ltb, ℤ, length, Ok, Err}
 use Rattle.rooms.specs.Room.{at}
 use Rattle.plan.specs.Plan.{Set}
 use Rattle.plan.specs.Shortage.{ShortBy}
-use Rattle.plan.specs.Verdict.{verdict, whole, lists_short}
-use Rattle.plan.specs.declared.Verdict.{Verdict}
-use Rattle.plan.specs.declared.Verdict.TheVariants.{Accepted, Refused as TurnedDown}
+use Rattle.plan.specs.declared.Fault.TheVariants.{Buffer}
+use Rattle.plan.specs.declared.No.TheVariants.{Short, Refused}
+use Rattle.plan.specs.Verdict.{verdict, whole, lists_short, Verdict, Accepted}
 use Rattle.lists.specs.Written.{ArcsWritten, SuppliesWritten}
-use Rattle.flow.specs.declared.Answer.{Answer}
-use Rattle.flow.specs.declared.Answer.TheVariants.{Runs, Short, Refused}
+use Rattle.flow.specs.Answer.{Answer}
 use Rattle.words.specs.Word.{holds}
 use Rattle.counting.specs.Counting.{Counting, counting_of, Assignment, Taken, FewestUses, MostUses}
 use Rattle.counting.specs.Network.{network}
@@ -16,7 +15,7 @@ use Rattle.counting.specs.Rules.{counting_rules}
 
 -- 3 after them, where a lent buffer is too short for what the request may write
 abbrev pub counting_verdict : (domains : List ℕ) → Counting → (short : Bool) → Verdict
-counting_verdict domains c short = verdict (counting_rules domains c ++ (whole 3 short ∷ []))
+counting_verdict domains c short = verdict (counting_rules domains c ++ (whole Buffer short ∷ []))
 
 -- ---- the network, handed out
 
@@ -26,9 +25,9 @@ network_judged domains counts supplies arcs =
 
 -- the network is written where the input is accepted, and nothing where it is turned down
 abbrev pub Handed : Counting → (supplies : List ℤ) → (arcs : List ℕ) → (supplies' : List ℤ) → (arcs' : List ℕ) → Verdict → Type 0
-Handed c supplies arcs supplies' arcs' Accepted =
+Handed c supplies arcs supplies' arcs' (Ok u) =
     SuppliesWritten (network c) (network c).nodes supplies supplies' × ArcsWritten (network c) (network c).arcs arcs arcs'
-Handed c supplies arcs supplies' arcs' (TurnedDown n place) = (supplies' ≡ supplies) × (arcs' ≡ arcs)
+Handed c supplies arcs supplies' arcs' (Err refusal) = (supplies' ≡ supplies) × (arcs' ≡ arcs)
 
 pub record NetworkAnswers (domains counts : List ℕ) (supplies : List ℤ) (arcs : List ℕ) (supplies' : List ℤ) (arcs' : List ℕ) (answer : Verdict) : Type 0 where
   pub answer_is : network_judged domains counts supplies arcs ≡ answer
@@ -63,10 +62,10 @@ pub record Counted (c : Counting) (b b' : Buffers) : Type 0 where
 
 -- where there is no assignment, by how much the network is short; then, and where the input is turned down, nothing is written
 abbrev pub Says : (domains counts : List ℕ) → (b b' : Buffers) → Answer → Type 0
-Says domains counts b b' Runs = (judged domains counts b ≡ Accepted) × Counted (counting_of domains counts) b b'
-Says domains counts b b' (Short value) =
+Says domains counts b b' (Ok u) = (judged domains counts b ≡ Accepted) × Counted (counting_of domains counts) b b'
+Says domains counts b b' (Err (Short value)) =
     (judged domains counts b ≡ Accepted) × ((S : Set) × ShortBy (network (counting_of domains counts)) value S) × (b' ≡ b)
-Says domains counts b b' (Refused n place) = (judged domains counts b ≡ TurnedDown n place) × (b' ≡ b)
+Says domains counts b b' (Err (Refused refusal)) = (judged domains counts b ≡ Err refusal) × (b' ≡ b)
 
 pub record CountAnswers (domains counts : List ℕ) (b b' : Buffers) (answer : Answer) : Type 0 where
   pub says : Says domains counts b b' answer

@@ -1,61 +1,53 @@
 -- The rules of a counting plan, each given way to by those before it; and what acceptance says: its network is well-formed.
 use Prim.Native.Nat.{ℕ, ◌+◌, ◌*◌, ◌≤◌, ◌<◌}
-use mathlib.Core.Path.{◌≡◌, sym}
-use mathlib.Core.Bool.{true, false}
-use mathlib.Core.List.{List}
+use mathlib.Core.Path.{◌≡◌, sym, ◌∙◌}
+use mathlib.Core.Bool.{false}
+use mathlib.Core.List.{List, [], ◌∷◌}
 use native.Mathlib.Omega.{arith}
 use lib.Dec.{ltb}
 use borrow.Author.Tests.{lt-ltb, le-ltb, ltb-false}
 use Rattle.plan.specs.Limits.{most_nodes, most_arcs, widest_high}
 use Rattle.plan.specs.Plan.{WellFormed}
-use Rattle.plan.specs.Verdict.{Lowest, lowest, verdict}
-use Rattle.plan.specs.declared.Verdict.{Verdict}
-use Rattle.plan.specs.declared.Verdict.TheVariants.{Accepted, Refused}
-use Rattle.plan.proofs.Refusals.{lowest_at, lowest_past, Clear, accepted_clear, neither}
+use Rattle.std.specs.Prelude.{Ok, Err}
+use Rattle.plan.specs.declared.Fault.TheVariants.{CountNodes, CountDomain, CountArcs, CountRange}
+use Rattle.plan.specs.declared.Refusal.{Refusal}
+use Rattle.plan.specs.Verdict.{Rule, whole, lowest, verdict, Accepted, Refused}
+use Rattle.plan.proofs.Refusals.{rule_refuses, rule_passes, Clear, accepted_clear, neither}
 use Rattle.counting.specs.Counting.{Counting}
 use Rattle.counting.specs.Network.{network}
 use Rattle.counting.specs.Rules.{names_beyond, count_wrong, counting_rules}
 use Rattle.counting.proofs.Counted.{network_well_formed}
 
--- the two halves of 18's test
-module _ (c : Counting) (j : ℕ) where
-  pub count_crossed : c.high j < c.low j → true ≡ count_wrong c j
-  count_crossed h = rw (lt-ltb (c.high j) (c.low j) h)
-
-  pub count_too_high : c.low j ≤ c.high j → ltb widest_high (c.high j) ≡ count_wrong c j
-  count_too_high h = rw (le-ltb (c.high j) (c.low j) h)
-
 module _ (domains : List ℕ) (c : Counting) where
-  pub too_many_nodes : most_nodes ≤ c.variables + c.values → Refused 15 0 ≡ verdict (counting_rules domains c)
+  abbrev beyond : Rule
+  beyond = record { fault = CountDomain; places = c.variables; concerns = names_beyond domains c.values }
+
+  abbrev arcs : Rule
+  arcs = whole CountArcs (ltb most_arcs (c.values * (c.variables + 1)))
+
+  abbrev ranges : Rule
+  ranges = record { fault = CountRange; places = c.values; concerns = count_wrong c }
+
+  pub too_many_nodes : most_nodes ≤ c.variables + c.values → Refused CountNodes 0 ≡ verdict (counting_rules domains c)
   too_many_nodes many = rw (lt-ltb most_nodes (c.variables + c.values + 1) (omega arith))
 
-  module _ (few : c.variables + c.values < most_nodes) {variable : ℕ}
-      (names : Lowest (names_beyond domains c.values) c.variables variable) where
-    few_nodes : ltb most_nodes (c.variables + c.values + 1) ≡ false
-    few_nodes = le-ltb most_nodes (c.variables + c.values + 1) (omega arith)
+  module _ (few : c.variables + c.values < most_nodes) where
+    past_nodes : verdict (counting_rules domains c) ≡ verdict (beyond ∷ arcs ∷ ranges ∷ [])
+    past_nodes = rw (le-ltb most_nodes (c.variables + c.values + 1) (omega arith))
 
-    pub value_beyond : variable < c.variables → Refused 16 variable ≡ verdict (counting_rules domains c)
-    value_beyond here =
-        rw few_nodes (lowest_at 16 (names_beyond domains c.values) c.variables variable _ names here)
+    pub value_beyond : {r : Refusal} → Err r ≡ lowest CountDomain (names_beyond domains c.values) c.variables Accepted
+        → Err r ≡ verdict (counting_rules domains c)
+    value_beyond is = rule_refuses beyond (arcs ∷ ranges ∷ []) is ∙ sym past_nodes
 
-    module _ (none : c.variables ≤ variable) where
-      past_names : (v : Verdict) → lowest 16 (names_beyond domains c.values) c.variables v ≡ v
-      past_names v = lowest_past 16 (names_beyond domains c.values) c.variables variable v names none
+    module _ (u : Unit {0}) (none : Ok u ≡ lowest CountDomain (names_beyond domains c.values) c.variables Accepted) where
+      past_names : verdict (counting_rules domains c) ≡ verdict (arcs ∷ ranges ∷ [])
+      past_names = past_nodes ∙ rule_passes beyond (arcs ∷ ranges ∷ []) u none
 
-      pub too_many_arcs : most_arcs < c.values * (c.variables + 1) → Refused 17 0 ≡ verdict (counting_rules domains c)
-      too_many_arcs many = rw (few_nodes, past_names, lt-ltb most_arcs (c.values * (c.variables + 1)) many)
+      pub too_many_arcs : most_arcs < c.values * (c.variables + 1) → Refused CountArcs 0 ≡ verdict (counting_rules domains c)
+      too_many_arcs many = sym (past_names ∙ rw (lt-ltb most_arcs (c.values * (c.variables + 1)) many))
 
-      module _ (arcs : c.values * (c.variables + 1) ≤ most_arcs) {value : ℕ} (wrong : Lowest (count_wrong c) c.values value) where
-        few_arcs : ltb most_arcs (c.values * (c.variables + 1)) ≡ false
-        few_arcs = le-ltb most_arcs (c.values * (c.variables + 1)) arcs
-
-        pub range_refused : value < c.values → Refused 18 value ≡ verdict (counting_rules domains c)
-        range_refused here =
-            rw (few_nodes, past_names, few_arcs) (lowest_at 18 (count_wrong c) c.values value Accepted wrong here)
-
-        pub all_pass : c.values ≤ value → Accepted ≡ verdict (counting_rules domains c)
-        all_pass right =
-            rw (few_nodes, past_names, few_arcs) (sym (lowest_past 18 (count_wrong c) c.values value Accepted wrong right))
+      pub ranges_decide : c.values * (c.variables + 1) ≤ most_arcs → lowest CountRange (count_wrong c) c.values Accepted ≡ verdict (counting_rules domains c)
+      ranges_decide few_arcs = sym (past_names ∙ rw (le-ltb most_arcs (c.values * (c.variables + 1)) few_arcs))
 
   pub accepted_network : verdict (counting_rules domains c) ≡ Accepted → WellFormed (network c)
   accepted_network e =

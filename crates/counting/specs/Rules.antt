@@ -1,6 +1,7 @@
 -- What a counting plan is turned down for.
 use Rattle.std.specs.Prelude.{ℕ, ◌+◌, ◌*◌, ◌^◌, Bool, ◌||◌, List, [], ◌∷◌, leb, ltb, get_or}
 use Rattle.plan.specs.Limits.{most_nodes, most_arcs, widest_high}
+use Rattle.plan.specs.declared.Fault.TheVariants.{CountNodes, CountDomain, CountArcs, CountRange}
 use Rattle.plan.specs.Verdict.{Rule, whole}
 use Rattle.counting.specs.Counting.{Counting}
 
@@ -15,8 +16,8 @@ count_wrong c j = ltb (c.high j) (c.low j) || ltb widest_high (c.high j)
 -- 15, 16, 17 and 18: what the counting plan itself is turned down for
 abbrev pub counting_rules : (domains : List ℕ) → Counting → List Rule
 counting_rules domains c =
-    whole 15 (ltb most_nodes (c.variables + c.values + 1))
-    ∷ record { number = 16; places = c.variables; concerns = names_beyond domains c.values }
-    ∷ whole 17 (ltb most_arcs (c.values * (c.variables + 1)))
-    ∷ record { number = 18; places = c.values; concerns = count_wrong c }
+    whole CountNodes (ltb most_nodes (c.variables + c.values + 1))
+    ∷ record { fault = CountDomain; places = c.variables; concerns = names_beyond domains c.values }
+    ∷ whole CountArcs (ltb most_arcs (c.values * (c.variables + 1)))
+    ∷ record { fault = CountRange; places = c.values; concerns = count_wrong c }
     ∷ []

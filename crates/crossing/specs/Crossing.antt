@@ -1,16 +1,10 @@
 -- How an answer crosses to C: as a struct of three numbers that say which answer it is.
 use Rattle.std.specs.Prelude.{ℕ, ◌≡◌, ℤ, pos}
-use Rattle.plan.specs.Verdict.{verdict_number, verdict_place}
-use Rattle.plan.specs.declared.Verdict.{Verdict}
+use Rattle.plan.specs.Verdict.{verdict_number, verdict_place, Verdict}
 use Rattle.flow.specs.Answer as flow
-use Rattle.flow.specs.declared.Answer as flow-declared
 use Rattle.reason.specs.Answer as reason
-use Rattle.reason.specs.declared.Answer as reason-declared
 use Rattle.held.specs.Answer as held
-use Rattle.held.specs.declared.Answer as held-declared
 use Rattle.file.specs.Answer as file
-use Rattle.file.specs.declared.Answer as file-declared
-use Rattle.file.specs.declared.Written as written-declared
 use Rattle.crossing.specs.Payload.{Part}
 use Rattle.crossing.specs.declared.answer.Answer.{Answer}
 
@@ -32,13 +26,13 @@ pub record Crosses {A : Type 0} (reading : Reading A) (Answers : A → Type 0) (
   pub crossed_is : crossed ≡ crossing reading answer
 
 -- narrowing's answers are the flow question's, and so are the counting request's
-abbrev pub flow_reading : Reading flow-declared.Answer
+abbrev pub flow_reading : Reading flow.Answer
 flow_reading = record { number = flow.number; place = flow.place; carried = flow.carried }
 
-abbrev pub reason_reading : Reading reason-declared.Answer
+abbrev pub reason_reading : Reading reason.Answer
 reason_reading = record { number = reason.number; place = reason.place; carried = reason.carried }
 
-abbrev pub held_reading : Reading held-declared.Answer
+abbrev pub held_reading : Reading held.Answer
 held_reading = record { number = held.number; place = held.place; carried = held.carried }
 
 -- a verdict carries nothing
@@ -46,11 +40,11 @@ abbrev pub verdict_reading : Reading Verdict
 verdict_reading = record { number = verdict_number; place = verdict_place; carried = λ v. pos 0 }
 
 -- a file that was read has its node count for a place, and its arc count for a value
-abbrev pub read_reading : Reading file-declared.Answer
+abbrev pub read_reading : Reading file.Answer
 read_reading = record { number = file.number; place = file.read_place; carried = λ r. pos (file.arcs_read r) }
 
 -- a file that was written has its length for a value
-abbrev pub written_reading : Reading written-declared.Written
+abbrev pub written_reading : Reading file.Written
 written_reading = record { number = file.written_number; place = file.written_index; carried = λ r. pos (file.written_length r) }
 
 -- a payload has its first byte for a place, and its length for a value

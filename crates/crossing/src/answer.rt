@@ -1,13 +1,15 @@
 // An answer as C reads it, and how each request's answer crosses. Internal: what crosses must fit.
 ghost use Rattle.std.specs.Prelude.{◌≡◌, ◌≤◌, ◌<◌, pos};
 ghost use Rattle.plan.specs.Limits.{most_arcs};
+ghost use Rattle.plan.specs.Verdict.{number_of};
 ghost use Rattle.format.specs.Format.{first_edition};
 ghost use Rattle.file.specs.Answer.{arcs_read, written_length};
 ghost use Rattle.crossing.specs.Payload.{part_of};
 ghost use Rattle.crossing.specs.Crossing.{crossing, flow_reading, reason_reading, held_reading, verdict_reading, read_reading, written_reading, payload_reading};
 
 use format::Block;
-use plan::Verdict;
+use held::Unheld;
+use plan::{No, Plan, Refusal, Verdict};
 
 // The paper's number, then the place and the value that go with it, or zeros.
 #[repr(C)]
@@ -52,14 +54,25 @@ impl Answer {
         }
     }
 
-    // A number by which the input is turned down, with the lowest place.
-    fn refused(number: u32, place: usize) -> Answer
-        requires { place < most_arcs }
-        ensures { result ≡ record { number = number; index = place; value = pos 0 } }
+    // The number and the lowest place by which the input is turned down.
+    fn refused(refusal: Refusal) -> Answer
+        requires { refusal.place < most_arcs }
+        ensures { result ≡ record { number = number_of refusal.fault; index = refusal.place; value = pos 0 } }
     {
         Answer {
-            number,
-            index: place as u32,
+            number: refusal.fault.number(),
+            index: refusal.place as u32,
+            value: 0,
+        }
+    }
+
+    // Number 10: flows are there, but none with the count.
+    fn outside() -> Answer
+        ensures { result ≡ record { number = 10; index = 0; value = pos 0 } }
+    {
+        Answer {
+            number: 10,
+            index: 0,
             value: 0,
         }
     }
@@ -77,40 +90,40 @@ impl Answer {
     }
 
     // The flow question's answer, narrowing's, and the counting request's.
-    pub fn of_flow(answer: flow::Answer) -> Answer
+    pub fn of_flow(answer: Result<(), No>) -> Answer
         requires { flow_reading.place answer < most_arcs }
         ensures { result ≡ crossing flow_reading answer }
     {
         match answer {
-            flow::Answer::Runs => Answer::done(),
-            flow::Answer::Short(value) => Answer::short(value),
-            flow::Answer::Refused(number, place) => Answer::refused(number, place),
+            Ok(()) => Answer::done(),
+            Err(No::Short(value)) => Answer::short(value),
+            Err(No::Refused(refusal)) => Answer::refused(refusal),
         }
     }
 
-    // The answer about an end of an arc.
-    pub fn of_reason(answer: reason::Answer) -> Answer
+    // The answer about an end of an arc: it stands, or has moved.
+    pub fn of_reason(answer: Result<Option<u32>, No>) -> Answer
         requires { reason_reading.place answer < most_arcs }
         ensures { result ≡ crossing reason_reading answer }
     {
         match answer {
-            reason::Answer::Stands => Answer::done(),
-            reason::Answer::Moved(value) => Answer::moved(value),
-            reason::Answer::Short(value) => Answer::short(value),
-            reason::Answer::Refused(number, place) => Answer::refused(number, place),
+            Ok(None) => Answer::done(),
+            Ok(Some(value)) => Answer::moved(value),
+            Err(No::Short(value)) => Answer::short(value),
+            Err(No::Refused(refusal)) => Answer::refused(refusal),
         }
     }
 
     // The answer about an arc held at a count.
-    pub fn of_held(answer: held::Answer) -> Answer
+    pub fn of_held(answer: Result<(), Unheld>) -> Answer
         requires { held_reading.place answer < most_arcs }
         ensures { result ≡ crossing held_reading answer }
     {
         match answer {
-            held::Answer::Runs => Answer::done(),
-            held::Answer::Short(value) => Answer::short(value),
-            held::Answer::Outside => Answer::refused(10, 0),
-            held::Answer::Refused(number, place) => Answer::refused(number, place),
+            Ok(()) => Answer::done(),
+            Err(Unheld::Short(value)) => Answer::short(value),
+            Err(Unheld::Outside) => Answer::outside(),
+            Err(Unheld::Refused(refusal)) => Answer::refused(refusal),
         }
     }
 
@@ -119,33 +132,33 @@ impl Answer {
         requires { verdict_reading.place verdict < most_arcs }
         ensures { result ≡ crossing verdict_reading verdict }
     {
-        match verdict {
-            Verdict::Accepted => Answer::done(),
-            Verdict::Refused(number, place) => Answer::refused(number, place),
-        }
+        let Err(refusal) = verdict else {
+            return Answer::done();
+        };
+        Answer::refused(refusal)
     }
 
-    // What reading a file gave.
-    pub fn of_read(answer: file::Answer) -> Answer
+    // What reading a file gave: the size of its plan.
+    pub fn of_read(answer: Result<Plan, Refusal>) -> Answer
         requires place { read_reading.place answer < most_arcs }
         requires value { arcs_read answer ≤ most_arcs }
         ensures { result ≡ crossing read_reading answer }
     {
         match answer {
-            file::Answer::Read(nodes, arcs) => Answer::told(nodes, arcs),
-            file::Answer::Refused(number, place) => Answer::refused(number, place),
+            Ok(size) => Answer::told(size.nodes, size.arcs),
+            Err(refusal) => Answer::refused(refusal),
         }
     }
 
-    // What writing a file gave.
-    pub fn of_written(written: file::Written) -> Answer
+    // What writing a file gave: its length.
+    pub fn of_written(written: Result<usize, Refusal>) -> Answer
         requires place { written_reading.place written < most_arcs }
         requires value { written_length written ≤ first_edition.longest }
         ensures { result ≡ crossing written_reading written }
     {
         match written {
-            file::Written::Length(length) => Answer::told(0, length),
-            file::Written::Refused(number, place) => Answer::refused(number, place),
+            Ok(length) => Answer::told(0, length),
+            Err(refusal) => Answer::refused(refusal),
         }
     }
 
@@ -155,11 +168,11 @@ impl Answer {
         ensures { result ≡ crossing payload_reading (part_of block verdict) }
     {
         match verdict {
-            Verdict::Accepted => Answer::told(
+            Ok(()) => Answer::told(
                 block * Block::SIZE + Block::PAYLOAD_AT,
                 Block::CHECK_AT - Block::PAYLOAD_AT,
             ),
-            Verdict::Refused(number, _) => Answer::refused(number, 0),
+            Err(refusal) => Answer::refused(Refusal::whole(refusal.fault)),
         }
     }
 }

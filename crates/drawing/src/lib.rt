@@ -2,7 +2,7 @@
 // what is drawn, `words` for the domains and `lists` for writing it down. Internal: its functions have `requires`.
 #![tactic(auto)]
 
-ghost use Rattle.std.specs.Prelude.{◌≡◌, cond, List, ℕ, ◌+◌, ◌*◌, ◌/◌, ◌≤◌, ◌<◌, ltb, pos, neg_ℤ, length, get_or};
+ghost use Rattle.std.specs.Prelude.{◌≡◌, cond, ◌+◌, ◌*◌, ◌/◌, ◌≤◌, ◌<◌, ltb, pos, neg_ℤ, length, get_or};
 ghost use Rattle.numbers.specs.Sums.{only};
 ghost use Rattle.words.specs.Word.{holds};
 ghost use Rattle.plan.specs.Limits.{most_nodes, arc_entries};
@@ -11,7 +11,7 @@ ghost use Rattle.counting.specs.Counting.{Counting, range_entries, counting_of};
 ghost use Rattle.counting.specs.Network.{network};
 
 use counting::RANGE_ENTRIES;
-use lists::write_arc;
+use lists::{write_arcs, write_first};
 use plan::Arc;
 use words::bit;
 
@@ -40,63 +40,25 @@ fn supply_of(v: usize, w: usize, u: usize) -> i32
     ensures { result ≡ cond (ltb u v) (pos 1) (cond (ltb u (v + w)) (pos 0) (neg_ℤ (pos v))) }
 {
     if u < v {
-        return 1;
-    }
-    if u < v + w {
-        return 0;
-    }
-    -(v as i32)
-}
-
-// Writes the arcs from variable i to all w values, where those of the variables before it stand.
-fn draw_row(domains: &[u64], counts: &[u32], w: usize, i: usize, arcs: &mut [u32])
-    requires size { (w ≡ length counts.now / range_entries) × (length domains.now + w < most_nodes) }
-    requires row { i < length domains.now }
-    requires whole { (length domains.now * w + w) * arc_entries ≤ length arcs.old }
-    ensures { (before : List ℕ) → ArcsWritten (network (counting_of domains.now counts.now)) (i * w) before arcs.old → ArcsWritten (network (counting_of domains.now counts.now)) (i * w + w) before arcs.new }
-{
-    let mut j = 0;
-    while j < w {
-        write_arc(arcs, i * w + j, pair_arc(domains, i, j));
-        j += 1;
+        1
+    } else if u < v + w {
+        0
+    } else {
+        -(v as i32)
     }
 }
 
-// Writes the arcs from all variables to all w values.
-fn draw_pairs(domains: &[u64], counts: &[u32], w: usize, arcs: &mut [u32])
-    requires size { (w ≡ length counts.now / range_entries) × (length domains.now + w < most_nodes) }
-    requires whole { (length domains.now * w + w) * arc_entries ≤ length arcs.old }
-    ensures { ArcsWritten (network (counting_of domains.now counts.now)) (length domains.now * w) arcs.old arcs.new }
-{
-    let mut i = 0;
-    while i < domains.len() {
-        draw_row(domains, counts, w, i, arcs);
-        i += 1;
-    }
-}
-
-// Writes the arcs from the w values to the last node, where those of the variables stand.
-fn draw_counts(domains: &[u64], counts: &[u32], w: usize, arcs: &mut [u32])
-    requires size { (w ≡ length counts.now / range_entries) × (length domains.now + w < most_nodes) }
-    requires whole { (length domains.now * w + w) * arc_entries ≤ length arcs.old }
-    ensures { (before : List ℕ) → ArcsWritten (network (counting_of domains.now counts.now)) (length domains.now * w) before arcs.old → ArcsWritten (network (counting_of domains.now counts.now)) (length domains.now * w + w) before arcs.new }
-{
-    let v = domains.len();
-    let mut j = 0;
-    while j < w {
-        write_arc(arcs, v * w + j, count_arc(counts, v, w, j));
-        j += 1;
-    }
-}
-
-// Writes the arcs of the network.
+// Writes the arcs of the network: those from each variable to all w values, then those from the values to the last node.
 pub fn draw_arcs(domains: &[u64], counts: &[u32], w: usize, arcs: &mut [u32])
     requires size { (w ≡ length counts.now / range_entries) × (length domains.now + w < most_nodes) }
     requires whole { (length domains.now * w + w) * arc_entries ≤ length arcs.old }
     ensures { ArcsWritten (network (counting_of domains.now counts.now)) (length domains.now * w + w) arcs.old arcs.new }
 {
-    draw_pairs(domains, counts, w, arcs);
-    draw_counts(domains, counts, w, arcs);
+    let v = domains.len();
+    for i in 0..v {
+        write_arcs(arcs, i * w, w, |j| pair_arc(domains, i, j));
+    }
+    write_arcs(arcs, v * w, w, |j| count_arc(counts, v, w, j));
 }
 
 // Writes the supplies of the network of v variables and w values.
@@ -104,9 +66,5 @@ pub fn draw_supplies(v: usize, w: usize, supplies: &mut [i32])
     requires { (v + w < most_nodes) × (v + w < length supplies.old) }
     ensures { (c : Counting) → c.variables ≡ v → c.values ≡ w → SuppliesWritten (network c) (v + w + 1) supplies.old supplies.new }
 {
-    let mut u = 0;
-    while u <= v + w {
-        supplies[u] = supply_of(v, w, u);
-        u += 1;
-    }
+    write_first(supplies, v + w + 1, |u| supply_of(v, w, u));
 }

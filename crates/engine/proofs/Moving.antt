@@ -1,6 +1,6 @@
 -- One push after the other along a path: what left the first node has arrived at the last, whichever of them a set holds.
-use Prim.Native.Nat.{ℕ, ◌+◌, ◌≤◌, ◌<◌}
-use mathlib.Core.Path.{◌≡◌, refl, sym, ◌∙◌}
+use Prim.Native.Nat.{ℕ, min, ◌+◌, ◌≤◌, ◌<◌}
+use mathlib.Core.Path.{◌≡◌, ◌∙◌}
 use mathlib.Core.Bool.{Bool, true, false, not}
 use mathlib.Core.Logic.{by_cases}
 use native.Mathlib.Omega.{arith}
@@ -14,17 +14,14 @@ use Rattle.engine.specs.Path.{Track, LeastOf, Moved}
 
 -- ---- the least room
 
-pub least_none : {room : ℕ → ℕ → ℕ} {path : ℕ → ℕ} {most : ℕ} → LeastOf room path 0 most most
-least_none = record { at_most = omega arith; fits = λ i l. absurd (omega arith); reached = λ l. absurd (omega arith) }
-
 pub least_more : {room : ℕ → ℕ → ℕ} {path : ℕ → ℕ} {i most r : ℕ} → LeastOf room path i most r → (here r' : ℕ)
-    → here ≡ room (path i) (path (i + 1)) → (r' ≤ r) × (r' ≤ here) × (0 < r → 0 < here → 0 < r') × (r' < r → r' ≡ here) → LeastOf room path (i + 1) most r'
-least_more {room} {path} {i} {most} {r} l here r' e w = record {
-  at_most = omega (arith, l.at_most, w.0);
-  fits = below_more _ i (λ j h. omega (arith, l.fits j h, w.0)) (omega (arith, w.1));
+    → here ≡ room (path i) (path (i + 1)) → r' ≡ min r here → LeastOf room path (i + 1) most r'
+least_more {room} {path} {i} {most} {r} l here r' e m = record {
+  at_most = omega (arith, l.at_most);
+  fits = below_more _ i (λ j h. omega (arith, l.fits j h)) (omega arith);
   reached = λ less. by_cases (dec_lt r' r)
-      (λ here_less. (i, omega arith, w.3 here_less ∙ e))
-      (λ no. let same : r' ≡ r = omega (arith, w.0) in let (j, lj, is) = l.reached (omega arith) in (j, omega arith, same ∙ is));
+      (λ here_less. (i, omega arith, omega arith))
+      (λ no. let (j, lj, is) = l.reached (omega arith) in (j, omega arith, omega arith));
 }
 
 -- where there is some room on each step, there is some on the path
@@ -62,13 +59,3 @@ module _ {n : ℕ} {room₀ room room' : ℕ → ℕ → ℕ} {path : ℕ → �
       by S true false a b = omega arith
       by S false true a b = omega arith
       by S false false a b = omega arith
-
-pub moved_none : {n : ℕ} {room : ℕ → ℕ → ℕ} {path : ℕ → ℕ} {d : ℕ} → Moved n room room path 0 d
-moved_none = record { across = λ S. refl; same = record { pairs = λ x y lx ly. refl }; elsewhere = λ x z lx lz off turned. refl }
-
--- the steps ahead are as they were
-pub ahead : {n : ℕ} {room₀ room : ℕ → ℕ → ℕ} {path : ℕ → ℕ} {depth d i : ℕ} → n ≤ side → Track n path depth → Moved n room₀ room path i d → i < depth
-    → room (path i) (path (i + 1)) ≡ room₀ (path i) (path (i + 1))
-ahead {path = path} {i = i} few t m l = m.elsewhere (path i) (path (i + 1)) (omega (arith, t.node i (omega arith))) (omega (arith, t.node (i + 1) (omega arith)))
-    (λ j lj e f. t.once j i lj (omega arith) (sym e))
-    (λ j lj e f. t.once j (i + 1) (omega arith) (omega arith) (sym f))

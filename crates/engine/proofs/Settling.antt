@@ -1,17 +1,16 @@
--- Words of numbers, and one path after the other.
+-- One path after the other.
 use Prim.Native.Nat.{ℕ, zero, suc, ◌+◌, ◌≤◌, ◌<◌}
-use mathlib.Core.Path.{◌≡◌, refl, sym, ap, ◌∙◌, subst}
-use mathlib.Core.Bool.{Bool, true, false, not, ◌&&◌, ◌||◌, true≢false, and-true, and-false, or-false}
+use mathlib.Core.Path.{◌≡◌, sym, ◌∙◌, subst}
+use mathlib.Core.Bool.{Bool, true, ◌&&◌, true≢false}
 use mathlib.Core.List.{List}
 use mathlib.Core.Logic.{by_cases}
 use native.Mathlib.Omega.{arith}
-use native.Mathlib.Decide.{ℕ_discrete, dec_lt}
-use lib.Dec.{eqb, ltb}
-use borrow.Author.Tests.{eq-eqb, ne_eqb, lt-ltb, le-ltb, ltb-true}
+use native.Mathlib.Decide.{dec_lt}
+use lib.Dec.{ltb}
+use borrow.Author.Tests.{lt-ltb, ltb-true}
 use Rattle.rooms.specs.Room.{side, seen, Fitting, Kept}
 use Rattle.rooms.specs.Move.{Less}
 use Rattle.words.specs.Word.{holds}
-use Rattle.words.proofs.Bits.{zero_holds}
 use Rattle.engine.proofs.Account.{sum_in_less}
 use Rattle.reach.specs.Reach.{Reach}
 use Rattle.ways.specs.Ways.{Ways, leads, Desk}
@@ -19,51 +18,7 @@ use Rattle.ways.proofs.Desks.{fitting_facing}
 use Rattle.reach.specs.Search.{Reached, Path}
 use Rattle.numbers.proofs.Truth.{both_true, true_both}
 use Rattle.engine.specs.Path.{Track, Moved}
-use Rattle.engine.specs.Settle.{Shows, Errand, Delivery, Delivered}
-
--- ---- words of numbers
-
-pub shows_none : (number : ℕ → ℕ) → Shows 0 number 0
-shows_none number = record { shown = λ x. zero_holds x ∙ sym (rw (le-ltb x 0 (omega arith))) }
-
--- one more node: it has some, or it has none
-module _ (n : ℕ) (number : ℕ → ℕ) (word : ℕ) (s : Shows n number word) where
-  next : (x : ℕ) → (x ≡ n → ⊥) → ltb x n ≡ ltb x (n + 1)
-  next x ne = by_cases (dec_lt x n)
-      (λ l. lt-ltb x n l ∙ sym (lt-ltb x (n + 1) (omega arith)))
-      (λ g. le-ltb x n (omega arith) ∙ sym (le-ltb x (n + 1) (omega arith)))
-
-  pub shows_in : (bit word' : ℕ) → 0 < number n → ((z : ℕ) → holds bit z ≡ eqb z n) → ((z : ℕ) → holds word' z ≡ holds word z || holds bit z)
-      → Shows (n + 1) number word'
-  shows_in bit word' more eb ew = record {
-    shown = λ x. ew x ∙ by_cases (ℕ_discrete x n)
-        (λ e. rw (s.shown x, eb x, e, eq-eqb n n refl, le-ltb n n (omega arith), lt-ltb n (n + 1) (omega arith), lt-ltb 0 (number n) more))
-        (λ ne. rw (s.shown x, eb x, ne_eqb x n ne) (or-false (ltb x n && ltb 0 (number x)) ∙ ap (λ t. t && ltb 0 (number x)) (next x ne)));
-  }
-
-  pub shows_out : number n ≡ 0 → Shows (n + 1) number word
-  shows_out none = record {
-    shown = λ x. s.shown x ∙ by_cases (ℕ_discrete x n)
-        (λ e. rw (e, none, le-ltb n n (omega arith)) (sym (and-false (ltb n (n + 1)))))
-        (λ ne. ap (λ t. t && ltb 0 (number x)) (next x ne));
-  }
-
--- one number is less: its node goes out, where none is left
-module _ (n : ℕ) (number number' : ℕ → ℕ) (word y d : ℕ) (s : Shows n number word) (l : Less number number' y d) where
-  pub spent_out : (bit word' : ℕ) → number' y ≡ 0 → ((z : ℕ) → holds bit z ≡ eqb z y) → ((z : ℕ) → holds word' z ≡ holds word z && not (holds bit z))
-      → Shows n number' word'
-  spent_out bit word' none eb ew = record {
-    shown = λ x. ew x ∙ by_cases (ℕ_discrete x y)
-        (λ e. rw (e, eb y, eq-eqb y y refl, none) (and-false (holds word y) ∙ sym (and-false (ltb y n))))
-        (λ ne. rw (s.shown x, eb x, ne_eqb x y ne, l.elsewhere x ne) (and-true (ltb x n && ltb 0 (number x))));
-  }
-
-  pub spent_in : (number' y ≡ 0 → ⊥) → Shows n number' word
-  spent_in some = record {
-    shown = λ x. s.shown x ∙ by_cases (ℕ_discrete x y)
-        (λ e. rw (e, lt-ltb 0 (number' y) (omega arith), lt-ltb 0 (number y) (omega (arith, l.given))))
-        (λ ne. rw (l.elsewhere x ne));
-  }
+use Rattle.engine.specs.Settle.{Shows, Errand, NoErrand, Delivery, Delivered}
 
 -- ---- a delivery
 
@@ -86,23 +41,23 @@ delivered n over under over' under' path {depth} {d} few t m o u more = record {
 -- ---- the path of an errand, with rooms
 
 module _ {n : ℕ} {rooms ways : List ℕ} {over under : ℕ → ℕ} {spare lack : ℕ} (back : Bool) (desk : Desk n rooms ways) (so : Shows n over spare)
-    (su : Shows n under lack) {path : ℕ → ℕ} {depth set : ℕ} {found : Bool} (e : Errand (leads ways back) spare lack path depth set found) where
+    (su : Shows n under lack) where
   w : Ways rooms ways
   w = desk.ways_show
 
   rest : Fitting n (seen rooms back)
   rest = fitting_facing rooms back desk.fitting
 
-  pub errand_delivery : found ≡ true → Delivery n (seen rooms back) over under path depth
-  errand_delivery hit = record {
+  pub errand_delivery : {path : ℕ → ℕ} {depth : ℕ} → Errand (leads ways back) spare lack path depth → Delivery n (seen rooms back) over under path depth
+  errand_delivery {path} {depth} e = record {
     track = record { node = node; once = p.once };
     rooms_there = there;
     some_over = ltb-true 0 (over (path 0)) (both_true (ltb (path 0) n) _ (sym (so.shown (path 0)) ∙ p.starts)).1;
-    some_under = ltb-true 0 (under (path depth)) (both_true (ltb (path depth) n) _ (sym (su.shown (path depth)) ∙ (e.way_there hit).3 (path depth) p.ends)).1;
+    some_under = ltb-true 0 (under (path depth)) (both_true (ltb (path depth) n) _ (sym (su.shown (path depth)) ∙ e.way_there.3 (path depth) p.ends)).1;
   }
     where
-      p : Path (leads ways back) side side spare (e.way_there hit).1 (e.way_there hit).0 path depth
-      p = (e.way_there hit).2
+      p : Path (leads ways back) side side spare e.way_there.1 e.way_there.0 path depth
+      p = e.way_there.2
 
       there : (i : ℕ) → i < depth → 0 < seen rooms back (path i) (path (i + 1))
       there i l = ltb-true 0 _ (sym (w.shown back (path i) (path (i + 1)) (p.node i (omega arith)) (p.step i l).node) ∙ (p.step i l).leads)
@@ -115,9 +70,9 @@ module _ {n : ℕ} {rooms ways : List ℕ} {over under : ℕ → ℕ} {spare lac
           same = omega arith
 
   -- no path: the reach
-  pub errand_none : found ≡ false
+  pub errand_none : {set : ℕ} → NoErrand (leads ways back) spare lack set
       → Reach n (seen rooms back) over n n (holds set) × ((x : ℕ) → x < n → holds set x ≡ true → under x ≡ 0)
-  errand_none missed = (
+  errand_none {set} e = (
     record {
       holds = record { holds = λ x lx more. r.starts_in x (so.shown x ∙ true_both (ltb x n) _ (lt-ltb x n lx) (lt-ltb 0 (over x) more)) };
       closed = record {
@@ -138,17 +93,14 @@ module _ {n : ℕ} {rooms ways : List ℕ} {over under : ℕ → ℕ} {spare lac
           x sx)).0;
     },
     λ x lx sx. by_cases (dec_lt 0 (under x))
-        (λ more. absurd (true≢false (sym (su.shown x ∙ true_both (ltb x n) _ (lt-ltb x n lx) (lt-ltb 0 (under x) more)) ∙ e.clear missed x sx)))
+        (λ more. absurd (true≢false (sym (su.shown x ∙ true_both (ltb x n) _ (lt-ltb x n lx) (lt-ltb 0 (under x) more)) ∙ e.clear x sx)))
         (λ z. omega arith),
   )
     where
       r : Reached (leads ways back) side side spare (holds set)
-      r = e.all_reached missed
+      r = e.all_reached
 
 -- ---- one delivery after the other
-
-pub kept_same : {n : ℕ} {room : ℕ → ℕ → ℕ} {over under : ℕ → ℕ} → Kept n room over under room over under
-kept_same = record { account = λ S. refl; same = record { pairs = λ x y lx ly. refl } }
 
 pub kept_on : {n : ℕ} {room₀ room room' : ℕ → ℕ → ℕ} {over₀ under₀ over under over' under' : ℕ → ℕ}
     → Kept n room₀ over₀ under₀ room over under → Kept n room over under room' over' under' → Kept n room₀ over₀ under₀ room' over' under'

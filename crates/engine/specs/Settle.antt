@@ -16,13 +16,15 @@ pub record Settled (n : ℕ) (room : ℕ → ℕ → ℕ) (over under : ℕ → 
 pub record Shows (n : ℕ) (number : ℕ → ℕ) (word : ℕ) : Type 0 where
   pub shown : (x : ℕ) → holds word x ≡ (ltb x n && ltb 0 (number x))
 
--- a path from a node with some over to one where it lacks; or the reach of the first, in which none lacks
-pub record Errand (way : ℕ → ℕ → Bool) (spare lack : ℕ) (path : ℕ → ℕ) (depth set : ℕ) (found : Bool) : Type 0 where
+-- a path from a node with some over to one where it lacks
+pub record Errand (way : ℕ → ℕ → Bool) (spare lack : ℕ) (path : ℕ → ℕ) (depth : ℕ) : Type 0 where
   pub fits : depth ≤ side
-  pub way_there : found ≡ true
-      → (levels : ℕ → ℕ) × (met : ℕ) × Path way side side spare met levels path depth × ((y : ℕ) → holds met y ≡ true → holds lack y ≡ true)
-  pub all_reached : found ≡ false → Reached way side side spare (holds set)
-  pub clear : found ≡ false → (x : ℕ) → holds set x ≡ true → holds lack x ≡ false
+  pub way_there : (levels : ℕ → ℕ) × (met : ℕ) × Path way side side spare met levels path depth × ((y : ℕ) → holds met y ≡ true → holds lack y ≡ true)
+
+-- there is none: the reach of the nodes with some over, in which none lacks
+pub record NoErrand (way : ℕ → ℕ → Bool) (spare lack set : ℕ) : Type 0 where
+  pub all_reached : Reached way side side spare (holds set)
+  pub clear : (x : ℕ) → holds set x ≡ true → holds lack x ≡ false
 
 -- a path that something can be delivered on
 pub record Delivery (n : ℕ) (room : ℕ → ℕ → ℕ) (over under path : ℕ → ℕ) (depth : ℕ) : Type 0 where

@@ -1,6 +1,6 @@
 -- Reading what was written gives the network back, and writing what was read gives the bytes back.
 use Prim.Native.Nat.{ℕ, ◌+◌, ◌-◌, ◌*◌, ◌/◌, ◌%◌, ◌≤◌, ◌<◌}
-use mathlib.Core.Path.{◌≡◌, sym, ap, ◌∙◌}
+use mathlib.Core.Path.{◌≡◌, refl, sym, ap, ◌∙◌}
 use mathlib.Core.Bool.{false}
 use mathlib.Core.List.{List, ◌∷◌}
 use mathlib.Core.Logic.{by_cases}
@@ -14,8 +14,9 @@ use borrow.Author.Tests.{lt-ltb, le-ltb, ltb-false, eq-eqb, ne_eqb}
 use Rattle.plan.specs.Limits.{arc_entries}
 use Rattle.plan.specs.Plan.{Plan, plan_of}
 use Rattle.plan.specs.Keeping.{SamePlan}
-use Rattle.plan.specs.Verdict.{verdict, whole, count_rules, limit_rules, lists_short}
-use Rattle.plan.specs.declared.Verdict.TheVariants.{Accepted}
+use Rattle.std.specs.Prelude.{Ok, Err}
+use Rattle.plan.specs.declared.Fault.TheVariants.{Buffer}
+use Rattle.plan.specs.Verdict.{verdict, whole, count_rules, limit_rules, lists_short, Accepted}
 use Rattle.plan.proofs.Refusals.{accepted_or_refused, accepted_both, accepted_well_formed, accepted_buffers_fit}
 use Rattle.plan.proofs.Checked.{lists_fit}
 use Rattle.plan.proofs.Alike.{counts_alike, limits_alike}
@@ -25,11 +26,7 @@ use Rattle.format.specs.Format.{first_edition, block_size, payload_at, check_at,
 use Rattle.format.specs.Held.{held, Bytes}
 use Rattle.blocks.specs.Rules.{FileAccepted}
 use Rattle.blocks.proofs.Accepted.{reading_accepted, accepted_reading, counted_accepted}
-use Rattle.file.specs.Answer.{ReadAnswers, WriteAnswers, judged_network}
-use Rattle.file.specs.declared.Answer.{Answer}
-use Rattle.file.specs.declared.Answer.TheVariants.{Read, Refused}
-use Rattle.file.specs.declared.Written.{Written}
-use Rattle.file.specs.declared.Written.TheVariants.{Length, Refused as NotWritten}
+use Rattle.file.specs.Answer.{Answer, Written, ReadAnswers, WriteAnswers, judged_network}
 use Rattle.format.proofs.Places.{body_label, body_content, body_unused, check_same, inside_head, inside_arcs}
 use Rattle.file.proofs.OneFile.{network_has_one_file, sound_is_the_file, accepted_is_the_file, file_accepted}
 
@@ -84,7 +81,7 @@ accepted_files_one f g bytes_f bytes_g accepted_f accepted_g same =
 -- ---- reading what was written
 
 -- the bytes written are the network's file
-pub written_file : (p : Plan) (buffer file : List ℕ) (long : ℕ) → WriteAnswers first_edition p buffer file (Length long) → FileOf first_edition p (take long file)
+pub written_file : (p : Plan) (buffer file : List ℕ) (long : ℕ) → WriteAnswers first_edition p buffer file (Ok long) → FileOf first_edition p (take long file)
 written_file p buffer file long a =
     let fits = ltb-false (length buffer) (file_length first_edition p) (accepted_buffers_fit p (ltb (length buffer) (file_length first_edition p)) a.says.0) in
     let is : long ≡ file_length first_edition p = a.says.1 in record {
@@ -92,7 +89,7 @@ written_file p buffer file long a =
       bytes = λ x l. get_or-take long file x 0 (omega (arith, is)) ∙ a.says.2.there x (omega (arith, is));
     }
 
-module _ (p : Plan) (buffer file : List ℕ) (long : ℕ) (a : WriteAnswers first_edition p buffer file (Length long)) where
+module _ (p : Plan) (buffer file : List ℕ) (long : ℕ) (a : WriteAnswers first_edition p buffer file (Ok long)) where
   abbrev again : List ℕ
   again = take long file
 
@@ -102,13 +99,13 @@ module _ (p : Plan) (buffer file : List ℕ) (long : ℕ) (a : WriteAnswers firs
   -- reading those bytes into lists that are long enough gives the counts and the network
   pub read_what_was_written : (supplies supplies' : List ℤ) (arcs arcs' : List ℕ) → p.nodes ≤ length supplies → p.arcs ≤ length arcs / arc_entries
       → (r : Answer) → ReadAnswers first_edition again supplies supplies' arcs arcs' r
-      → (r ≡ Read p.nodes p.arcs) × SuppliesWritten p p.nodes supplies supplies' × ArcsWritten p p.arcs arcs arcs'
-  read_what_was_written supplies supplies' arcs arcs' enough enough' (Read n m) x =
+      → (r ≡ Ok (record { nodes = p.nodes; arcs = p.arcs })) × SuppliesWritten p p.nodes supplies supplies' × ArcsWritten p p.arcs arcs arcs'
+  read_what_was_written supplies supplies' arcs arcs' enough enough' (Ok size) x =
       let same = back.1 in
-      let nodes : n ≡ p.nodes = x.says.1 ∙ same.network.nodes in
-      let count : m ≡ p.arcs = x.says.2 ∙ same.network.arcs in
-      (rw (nodes, count), supplies_alike same x.says.1 x.says.3, arcs_alike same x.says.2 x.says.4)
-  read_what_was_written supplies supplies' arcs arcs' enough enough' (Refused n i) x =
+      let nodes : size.nodes ≡ p.nodes = x.says.1 ∙ same.network.nodes in
+      let count : size.arcs ≡ p.arcs = x.says.2 ∙ same.network.arcs in
+      (rw (← nodes, ← count) refl, supplies_alike same x.says.1 x.says.3, arcs_alike same x.says.2 x.says.4)
+  read_what_was_written supplies supplies' arcs arcs' enough enough' (Err r) x =
       let same = back.1 in
       let fits : lists_short (held first_edition again) supplies arcs ≡ false =
       rw (same.network.nodes, same.network.arcs, le-ltb (length supplies) p.nodes enough, le-ltb (length arcs / arc_entries) p.arcs enough') in
@@ -118,7 +115,7 @@ module _ (p : Plan) (buffer file : List ℕ) (long : ℕ) (a : WriteAnswers firs
 -- ---- writing what was read
 
 module _ (file : List ℕ) (bytes : Bytes file) (supplies supplies' : List ℤ) (arcs arcs' : List ℕ) (n m : ℕ)
-    (x : ReadAnswers first_edition file supplies supplies' arcs arcs' (Read n m)) where
+    (x : ReadAnswers first_edition file supplies supplies' arcs arcs' (Ok (record { nodes = n; arcs = m }))) where
   abbrev plan : Plan
   plan = held first_edition file
 
@@ -142,20 +139,20 @@ module _ (file : List ℕ) (bytes : Bytes file) (supplies supplies' : List ℤ) 
       let short = ltb (length buffer) (file_length first_edition network) in
       let fits : short ≡ false = le-ltb (length buffer) (file_length first_edition network) (omega (arith, long_same network plan same, is_file.long)) in
       let limits : verdict (limit_rules network) ≡ Accepted = limits_alike same ∙ parts.2 in
-      accepted_both (count_rules network) (whole 3 short ∷ limit_rules network)
+      accepted_both (count_rules network) (whole Buffer short ∷ limit_rules network)
       (counts_alike same ∙ counted_accepted plan parts.0.counts) (rw fits limits)
 
   -- writing them to a buffer that is long enough gives the bytes of the file
   pub written_what_was_read : (buffer buffer' : List ℕ) → length file ≤ length buffer → (r : Written) → WriteAnswers first_edition network buffer buffer' r
-      → (r ≡ Length (length file)) × (take (length file) buffer' ≡ file)
-  written_what_was_read buffer buffer' enough (Length long) y =
+      → (r ≡ Ok (length file)) × (take (length file) buffer' ≡ file)
+  written_what_was_read buffer buffer' enough (Ok long) y =
       let is : long ≡ length file = y.says.1 ∙ long_same network plan same ∙ sym is_file.long in
       let whole : length (take (length file) buffer') ≡ length file = length-take-le (length file) buffer' (omega (arith, y.says.2.same_length, enough)) in (
-        ap Length is,
+        ap Ok is,
         ext_get_or 0 (take (length file) buffer') file whole
             (λ i l. get_or-take (length file) buffer' i 0 (omega (arith, whole))
             ∙ y.says.2.there i (omega (arith, whole, is))
             ∙ block_same network plan same (i / block_size) (i % block_size)
             ∙ sym (is_file.bytes i (omega (arith, whole, is_file.long)))),
       )
-  written_what_was_read buffer buffer' enough (NotWritten k i) y = absurd (accepted_or_refused (accepted buffer enough) y.says.0)
+  written_what_was_read buffer buffer' enough (Err r) y = absurd (accepted_or_refused (accepted buffer enough) y.says.0)

@@ -2,17 +2,3 @@
 // has one file, that an accepted file is the file of its network, and that reading and writing go back and forth. It uses
 // `format`, `blocks` and `plan`.
 #![tactic(auto)]
-
-// What reading gives: the node count and the arc count, or a number of document 01 with its place.
-#[derive(Clone, Copy)]
-pub enum Answer {
-    Read(usize, usize),
-    Refused(u32, usize),
-}
-
-// What writing gives: the length of the file, or a number of document 01 with its place.
-#[derive(Clone, Copy)]
-pub enum Written {
-    Length(usize),
-    Refused(u32, usize),
-}

@@ -3,78 +3,63 @@
 // the rooms and `one_arc` for each arc. Internal: its functions have `requires`.
 #![tactic(auto)]
 
-ghost use Rattle.std.specs.Prelude.{◌≡◌, false, ℕ, ◌≤◌, ◌<◌, ◌/◌, List, ℤ, length};
+ghost use Rattle.std.specs.Prelude.{◌≡◌, false, ℕ, ◌≤◌, ◌<◌, length};
 ghost use Rattle.numbers.specs.Sums.{put};
 ghost use Rattle.rooms.specs.Room.{at, seen};
 ghost use Rattle.ways.specs.Ways.{Desk};
-ghost use Rattle.plan.specs.Limits.{arc_entries};
-ghost use Rattle.plan.specs.Plan.{Plan, WellFormed, plan_of};
-ghost use Rattle.plan.specs.Flow.{FirstFlow, Smallest, held, fixed};
+ghost use Rattle.ways.specs.Lent.{SameLent};
+ghost use Rattle.plan.specs.Plan.{Plan, WellFormed, meant};
+ghost use Rattle.plan.specs.Flow.{FirstFlow, Smallest, held as holding, fixed};
 ghost use Rattle.stand.specs.State.{Ready};
-ghost use Rattle.first_flow.specs.Fixing.{Listed, Fixing};
+ghost use Rattle.first_flow.specs.Fixing.{held_arc, held_count, ListedWith, FixingWith};
 
 use one_arc::counts::{end_of, hold_at};
-use plan::Arc;
-use stand::build::arc_at;
+use plan::{Arc, Network};
 
-// Arc i of a list of arcs; the range of arc k is a count alone.
-fn arc_held_at(arcs: &[u32], k: usize, count: u32, i: usize) -> Arc
-    requires { i < length arcs.now / arc_entries }
-    ensures { (supplies : List ℤ) → result ≡ record { from = (plan_of arcs.now supplies).from i; to = (plan_of arcs.now supplies).to i; low = put (plan_of arcs.now supplies).low k count i; high = put (plan_of arcs.now supplies).high k count i } }
+// Arc i of a network; the range of an arc that is held is its count alone.
+fn arc_held_at(network: Network, held: Option<(usize, u32)>, i: usize) -> Arc
+    requires { i < (meant network).arcs }
+    ensures { let p = meant network.entry in let k = held_arc network.entry.arcs.now held in result ≡ record { from = p.from i; to = p.to i; low = put p.low k (held_count held) i; high = put p.high k (held_count held) i } }
 {
-    let arc = arc_at(arcs, i);
-    if i == k {
-        return Arc::new(arc.from, arc.to, count, count);
+    let arc = network.arc(i);
+    match held {
+        Some((k, count)) if k == i => Arc::new(arc.from, arc.to, count, count),
+        _ => arc,
     }
-    arc
 }
 
 // The smallest count of arc i, where the arcs before it are held; arc i is held there too.
-fn fix(
-    arcs: &[u32],
-    supplies: &[i32],
-    k: usize,
-    count: u32,
-    i: usize,
-    rooms: &mut [u32],
-    ways: &mut [u64],
-) -> u32
-    requires desk { Desk (length supplies.now) rooms.old ways.old }
-    requires arc { i < length arcs.now / arc_entries }
-    requires ready { (p : Plan) × ((f : ℕ → ℕ) × Fixing arcs.now supplies.now k count i p f (seen rooms.old false)) }
-    ensures desk { Desk (length supplies.now) rooms.new ways.new }
-    ensures fixed { (p : Plan) (f : ℕ → ℕ) → Fixing arcs.now supplies.now k count i p f (seen rooms.old false) → Smallest (fixed p f i) i result × Ready (held (fixed p f i) i result) (seen rooms.new false) }
+fn fix(network: Network, held: Option<(usize, u32)>, i: usize, desk: &mut ways::Desk) -> u32
+    requires desk { Desk (meant network).nodes desk.old.rooms.now desk.old.ways.now }
+    requires arc { i < (meant network).arcs }
+    requires ready { (p : Plan) × ((f : ℕ → ℕ) × FixingWith network held i p f (seen desk.old.rooms.now false)) }
+    ensures desk { Desk (meant network.entry).nodes desk.new.rooms.now desk.new.ways.now }
+    ensures fixed { (p : Plan) (f : ℕ → ℕ) → FixingWith network.entry held i p f (seen desk.old.rooms.now false) → Smallest (fixed p f i) i result × Ready (holding (fixed p f i) i result) (seen desk.new.rooms.now false) }
+    ensures lent { SameLent desk.old desk.new }
 {
-    let arc = arc_held_at(arcs, k, count, i);
-    let n = supplies.len();
-    let from = arc.from as usize;
-    let to = arc.to as usize;
-    let least = end_of(rooms, ways, false, n, from, to, arc.low, arc.high);
-    hold_at(rooms, ways, n, from, to, arc.low, arc.high, least);
+    let n = network.supplies.len();
+    let arc = arc_held_at(network, held, i);
+    let least = end_of(desk, false, n, arc);
+    hold_at(desk, n, arc, least);
     least
 }
 
-// Writes the first flow of a plan that has a flow, with arc k held at a count, or none where k is no arc;
-// entries at or past the arc count stay.
+// Writes the first flow of a plan that has a flow, with an arc held at a count, or none; entries at or past the arc
+// count stay.
 pub fn first_flow(
-    arcs: &[u32],
-    supplies: &[i32],
-    k: usize,
-    count: u32,
+    network: Network,
+    held: Option<(usize, u32)>,
     counts: &mut [u32],
-    rooms: &mut [u32],
-    ways: &mut [u64],
+    desk: &mut ways::Desk,
 )
-    requires desk { Desk (length supplies.now) rooms.old ways.old }
-    requires whole { length arcs.now / arc_entries ≤ length counts.old }
-    requires ready { (p : Plan) × (Listed arcs.now supplies.now k count p × WellFormed p × Ready p (seen rooms.old false)) }
-    ensures first { (p : Plan) → Listed arcs.now supplies.now k count p → WellFormed p → Ready p (seen rooms.old false) → FirstFlow p (at counts.new) }
-    ensures past { (j : ℕ) → length arcs.now / arc_entries ≤ j → at counts.new j ≡ at counts.old j }
+    requires desk { Desk (meant network).nodes desk.old.rooms.now desk.old.ways.now }
+    requires whole { (meant network).arcs ≤ length counts.old }
+    requires ready { (p : Plan) × (ListedWith network held p × WellFormed p × Ready p (seen desk.old.rooms.now false)) }
+    ensures first { (p : Plan) → ListedWith network.entry held p → WellFormed p → Ready p (seen desk.old.rooms.now false) → FirstFlow p (at counts.new) }
+    ensures past { (j : ℕ) → (meant network.entry).arcs ≤ j → at counts.new j ≡ at counts.old j }
+    ensures lent { SameLent desk.old desk.new }
 {
-    let total = arcs.len() / Arc::ENTRIES;
-    let mut i = 0;
-    while i < total {
-        counts[i] = fix(arcs, supplies, k, count, i, rooms, ways);
-        i += 1;
+    for i in 0..network.size().arcs {
+        counts[i] = fix(network, held, i, desk);
     }
 }

@@ -5,18 +5,18 @@ use mathlib.Core.Path.{◌≡◌}
 use mathlib.Core.List.{List}
 use lib.IntN.{ℤ}
 use lib.ListN.{length}
+use Rattle.std.specs.Prelude.{Err}
 use Rattle.numbers.proofs.Parts.{whole}
 use Rattle.rooms.specs.Room.{at}
 use Rattle.plan.specs.Plan.{Plan, WellFormed}
 use Rattle.plan.specs.Flow.{Flow}
 use Rattle.plan.specs.Keeping.{SameNetwork, Keeps}
 use Rattle.plan.proofs.Demand3.{keeps_alike, demand_3_no}
-use Rattle.flow.specs.Answer.{number, FlowAnswers}
-use Rattle.flow.specs.declared.Answer.{Answer}
-use Rattle.flow.specs.declared.Answer.TheVariants.{Short}
+use Rattle.plan.specs.declared.No.TheVariants.{Short}
+use Rattle.flow.specs.Answer.{Answer, number, FlowAnswers}
 use Rattle.flow.proofs.Unique.{no_exactly_if_no_flow}
 
-module _ (p q : Plan) {arcs nodes a n : List ℕ} {value : ℤ} (x : FlowAnswers p arcs nodes a n (Short value)) where
+module _ (p q : Plan) {arcs nodes a n : List ℕ} {value : ℤ} (x : FlowAnswers p arcs nodes a n (Err (Short value))) where
   pub no_outlives : WellFormed q → SameNetwork p q → Keeps p q (at a) → (f : ℕ → ℕ) → Flow q f → ⊥
   no_outlives wq same kept =
       let lack = x.says.1 in

@@ -1,3 +1,2 @@
 pub mod Unique
 pub mod Demand3
-pub mod Answering

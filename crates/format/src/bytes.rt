@@ -3,19 +3,12 @@ ghost use Rattle.std.specs.Prelude.{◌≡◌, ◌+◌, ◌<◌, length};
 ghost use Rattle.format.specs.Format.{digit, packed, unsigned};
 ghost use Rattle.format.specs.Held.{two, four, signed};
 
-// A byte is a number below 256.
-pub fn wide(x: u8) -> usize
-    ensures { (result ≡ x) × (result < 256) }
-{
-    x as usize
-}
-
 // The number in two bytes.
 pub fn two(bytes: &[u8], at: usize) -> usize
     requires { at + 1 < length bytes.now }
     ensures { (result ≡ two bytes.now at) × (result < 65536) }
 {
-    wide(bytes[at]) + 256 * wide(bytes[at + 1])
+    usize::from(u16::from_le_bytes([bytes[at], bytes[at + 1]]))
 }
 
 // The number in four bytes.
@@ -23,7 +16,7 @@ pub fn four(bytes: &[u8], at: usize) -> u32
     requires { at + 3 < length bytes.now }
     ensures { result ≡ four bytes.now at }
 {
-    (two(bytes, at) + 65536 * two(bytes, at + 2)) as u32
+    u32::from_le_bytes([bytes[at], bytes[at + 1], bytes[at + 2], bytes[at + 3]])
 }
 
 // Byte d of a number of at most four bytes.
@@ -31,27 +24,21 @@ pub fn digit(x: usize, d: usize) -> u8
     requires { d < 4 }
     ensures { result ≡ digit x d }
 {
-    ((x >> (8 * d)) % 256) as u8
+    x.to_le_bytes()[d]
 }
 
 // A number of four bytes as a signed one.
 pub fn signed(n: u32) -> i32
     ensures { result ≡ signed n }
 {
-    if n < 2147483648 {
-        return n as i32;
-    }
-    !((4294967295 - n) as i32)
+    n.cast_signed()
 }
 
 // A signed number as one of four bytes.
 pub fn unsigned(z: i32) -> u32
     ensures { result ≡ unsigned z }
 {
-    if z < 0 {
-        return 4294967295 - (!z as u32);
-    }
-    z as u32
+    z.cast_unsigned()
 }
 
 // Byte i of six: two numbers of one byte each, then two of two bytes each.
@@ -59,14 +46,10 @@ pub fn packed(a: usize, b: usize, c: usize, d: usize, i: usize) -> u8
     requires { (a < 256) × (b < 256) × (i < 6) }
     ensures { result ≡ packed a b c d i }
 {
-    if i == 0 {
-        return a as u8;
+    match i {
+        0 => a as u8,
+        1 => b as u8,
+        2 | 3 => digit(c, i - 2),
+        _ => digit(d, i - 4),
     }
-    if i == 1 {
-        return b as u8;
-    }
-    if i < 4 {
-        return digit(c, i - 2);
-    }
-    digit(d, i - 4)
 }

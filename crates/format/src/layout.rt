@@ -6,7 +6,6 @@ ghost use Rattle.format.specs.Format.{first_edition, block_size, blocks_of, arcs
 ghost use Rattle.format.specs.Held.{byte};
 ghost use Rattle.format.specs.Block.{block_of};
 
-use crate::bytes::wide;
 use crate::{Block, Edition};
 
 // The head, and as many arc blocks as the arcs need.
@@ -14,7 +13,7 @@ pub fn blocks_of(arcs: usize) -> usize
     requires { arcs < 2 ^ 62 }
     ensures { result ≡ blocks_of first_edition arcs }
 {
-    1 + (arcs + (Edition::BLOCK_ARCS - 1)) / Edition::BLOCK_ARCS
+    1 + arcs.div_ceil(Edition::BLOCK_ARCS)
 }
 
 // How many arcs stand in arc block b.
@@ -22,14 +21,8 @@ pub fn arcs_in(arcs: usize, b: usize) -> usize
     requires { (1 ≤ b) × (b < 256) }
     ensures { result ≡ arcs_in first_edition arcs b }
 {
-    let before = (b - 1) * Edition::BLOCK_ARCS;
-    if arcs <= before {
-        return 0;
-    }
-    if arcs - before < Edition::BLOCK_ARCS {
-        return arcs - before;
-    }
-    Edition::BLOCK_ARCS
+    arcs.saturating_sub((b - 1) * Edition::BLOCK_ARCS)
+        .min(Edition::BLOCK_ARCS)
 }
 
 // The kind of block b.
@@ -37,9 +30,10 @@ pub fn kind_of(b: usize) -> u8
     ensures { result ≡ kind_of first_edition b }
 {
     if b == 0 {
-        return Edition::HEAD_KIND;
+        Edition::HEAD_KIND
+    } else {
+        Edition::ARC_KIND
     }
-    Edition::ARC_KIND
 }
 
 // What block b says of itself in a file of so many nodes and arcs.
@@ -73,10 +67,8 @@ pub fn check_of(file: &[u8], b: usize) -> usize
     ensures { result ≡ check_of (byte file.now b) }
 {
     let mut sum = 0;
-    let mut i = 0;
-    while i < Block::CHECK_AT {
-        sum += (i + 1) * wide(file[b * Block::SIZE + i]);
-        i += 1;
+    for i in 0..Block::CHECK_AT {
+        sum += (i + 1) * usize::from(file[b * Block::SIZE + i]);
     }
     sum % Block::CHECK_MODULUS
 }

@@ -7,12 +7,13 @@ use mathlib.Core.Logic.{◌↔◌}
 use native.Mathlib.Omega.{arith}
 use lib.IntN.{ℤ}
 use lib.ListN.{length}
+use Rattle.std.specs.Prelude.{Ok, Err}
 use borrow.Author.Tests.{lt-leb, le-ltb}
 use Rattle.rooms.specs.Room.{at}
 use Rattle.plan.specs.Plan.{Plan, Set, WellFormed}
 use Rattle.plan.specs.Flow.{Flow, Occurs, Narrowed, OutsideRange, FirstWith}
 use Rattle.plan.specs.Shortage.{ShortBy}
-use Rattle.plan.specs.declared.Verdict.TheVariants.{Accepted}
+use Rattle.plan.specs.Verdict.{Accepted}
 use Rattle.plan.proofs.Refusals.{accepted_or_refused}
 use Rattle.plan.proofs.Checked.{well_formed_asked}
 use Rattle.plan.proofs.Ends.{smallest_least, largest_most}
@@ -20,9 +21,8 @@ use Rattle.plan.proofs.Between.{every_count_occurs}
 use Rattle.plan.proofs.Unique.{short_by_unique, short_or_flow}
 use Rattle.plan.proofs.HeldCounts.{first_with_unique, outside_never}
 use Rattle.lists.proofs.Entries.{one_content}
-use Rattle.held.specs.Answer.{number, judged, HeldAnswers}
-use Rattle.held.specs.declared.Answer.{Answer}
-use Rattle.held.specs.declared.Answer.TheVariants.{Runs, Short, Outside, Refused}
+use Rattle.held.specs.Answer.{Answer, number, judged, HeldAnswers}
+use Rattle.held.specs.declared.Unheld.TheVariants.{Short, Outside, Refused}
 use Rattle.held.proofs.Answering.{request_accepted}
 
 module _ (p : Plan) (arc count : ℕ) (arcs : List ℕ) where
@@ -36,30 +36,30 @@ module _ (p : Plan) (arc count : ℕ) (arcs : List ℕ) where
 
   pub held_answers_unique : {a a' : List ℕ} (r r' : Answer)
       → HeldAnswers p arc count arcs a r → HeldAnswers p arc count arcs a' r' → (r ≡ r') × (a ≡ a')
-  held_answers_unique {a} {a'} Runs Runs x y = (
+  held_answers_unique {a} {a'} (Ok u) (Ok u') x y = (
     refl,
     one_content 0 p.arcs arcs a a' x.arcs_length y.arcs_length
         (first_with_unique p arc count (at a) (at a') x.says.1.first y.says.1.first)
         x.says.1.past y.says.1.past,
   )
-  held_answers_unique Runs (Short v) x y = absurd (flow_or_short x.says.0 x.says.1.first.flow y.says.1.0)
-  held_answers_unique Runs Outside x y = absurd (outside_never y.says.1.0 (first_occurs x.says.1.first))
-  held_answers_unique Runs (Refused m i) x y = absurd (accepted_or_refused x.says.0 y.says.0)
-  held_answers_unique (Short v) Runs x y = absurd (flow_or_short x.says.0 y.says.1.first.flow x.says.1.0)
-  held_answers_unique (Short v) (Short v') x y =
-      (ap Short (short_by_unique x.says.1.0.1 y.says.1.0.1), x.says.1.1 ∙ sym y.says.1.1)
-  held_answers_unique (Short v) Outside x y =
+  held_answers_unique (Ok u) (Err (Short v)) x y = absurd (flow_or_short x.says.0 x.says.1.first.flow y.says.1.0)
+  held_answers_unique (Ok u) (Err Outside) x y = absurd (outside_never y.says.1.0 (first_occurs x.says.1.first))
+  held_answers_unique (Ok u) (Err (Refused r)) x y = absurd (accepted_or_refused x.says.0 y.says.0)
+  held_answers_unique (Err (Short v)) (Ok u) x y = absurd (flow_or_short x.says.0 y.says.1.first.flow x.says.1.0)
+  held_answers_unique (Err (Short v)) (Err (Short v')) x y =
+      (ap (λ v. Err (Short v)) (short_by_unique x.says.1.0.1 y.says.1.0.1), x.says.1.1 ∙ sym y.says.1.1)
+  held_answers_unique (Err (Short v)) (Err Outside) x y =
       absurd (flow_or_short x.says.0 y.says.1.0.narrowed.low_end.occurs.flow x.says.1.0)
-  held_answers_unique (Short v) (Refused m i) x y = absurd (accepted_or_refused x.says.0 y.says.0)
-  held_answers_unique Outside Runs x y = absurd (outside_never x.says.1.0 (first_occurs y.says.1.first))
-  held_answers_unique Outside (Short v) x y =
+  held_answers_unique (Err (Short v)) (Err (Refused r)) x y = absurd (accepted_or_refused x.says.0 y.says.0)
+  held_answers_unique (Err Outside) (Ok u) x y = absurd (outside_never x.says.1.0 (first_occurs y.says.1.first))
+  held_answers_unique (Err Outside) (Err (Short v)) x y =
       absurd (flow_or_short x.says.0 x.says.1.0.narrowed.low_end.occurs.flow y.says.1.0)
-  held_answers_unique Outside Outside x y = (refl, x.says.1.1 ∙ sym y.says.1.1)
-  held_answers_unique Outside (Refused m i) x y = absurd (accepted_or_refused x.says.0 y.says.0)
-  held_answers_unique (Refused m i) Runs x y = absurd (accepted_or_refused y.says.0 x.says.0)
-  held_answers_unique (Refused m i) (Short v) x y = absurd (accepted_or_refused y.says.0 x.says.0)
-  held_answers_unique (Refused m i) Outside x y = absurd (accepted_or_refused y.says.0 x.says.0)
-  held_answers_unique (Refused m i) (Refused m' i') x y = (cc (x.says.0, y.says.0), x.says.1 ∙ sym y.says.1)
+  held_answers_unique (Err Outside) (Err Outside) x y = (refl, x.says.1.1 ∙ sym y.says.1.1)
+  held_answers_unique (Err Outside) (Err (Refused r)) x y = absurd (accepted_or_refused x.says.0 y.says.0)
+  held_answers_unique (Err (Refused r)) (Ok u) x y = absurd (accepted_or_refused y.says.0 x.says.0)
+  held_answers_unique (Err (Refused r)) (Err (Short v)) x y = absurd (accepted_or_refused y.says.0 x.says.0)
+  held_answers_unique (Err (Refused r)) (Err Outside) x y = absurd (accepted_or_refused y.says.0 x.says.0)
+  held_answers_unique (Err (Refused r)) (Err (Refused r')) x y = (cc (x.says.0, y.says.0), x.says.1 ∙ sym y.says.1)
 
   -- a well-formed plan with a long enough buffer, asked about an arc that it has
   module _ (w : WellFormed p) (there : arc < p.arcs) (long : p.arcs ≤ length arcs) where
@@ -68,10 +68,10 @@ module _ (p : Plan) (arc count : ℕ) (arcs : List ℕ) where
 
     -- gets number 0 exactly if some flow has the count
     pub held_exactly_if_occurs : {a : List ℕ} (r : Answer) → HeldAnswers p arc count arcs a r → (number r ≡ 0) ↔ Occurs p arc count
-    held_exactly_if_occurs Runs x = (λ yes. first_occurs x.says.1.first, λ o. refl)
-    held_exactly_if_occurs (Short v) x = (λ yes. absurd (omega arith), λ o. absurd (flow_or_short accepted o.flow x.says.1.0))
-    held_exactly_if_occurs Outside x = (λ yes. absurd (omega arith), λ o. absurd (outside_never x.says.1.0 o))
-    held_exactly_if_occurs (Refused m i) x = absurd (accepted_or_refused accepted x.says.0)
+    held_exactly_if_occurs (Ok u) x = (λ yes. first_occurs x.says.1.first, λ o. refl)
+    held_exactly_if_occurs (Err (Short v)) x = (λ yes. absurd (omega arith), λ o. absurd (flow_or_short accepted o.flow x.says.1.0))
+    held_exactly_if_occurs (Err Outside) x = (λ yes. absurd (omega arith), λ o. absurd (outside_never x.says.1.0 o))
+    held_exactly_if_occurs (Err (Refused r)) x = absurd (accepted_or_refused accepted x.says.0)
 
     -- so exactly if the count lies in the arc's narrowed range
     pub held_exactly_in_range : {a : List ℕ} (r : Answer) → HeldAnswers p arc count arcs a r
@@ -85,19 +85,19 @@ module _ (p : Plan) (arc count : ℕ) (arcs : List ℕ) where
     -- number 9 exactly if no flow exists
     pub held_no_exactly_if_no_flow : {a : List ℕ} (r : Answer) → HeldAnswers p arc count arcs a r
         → (number r ≡ 9) ↔ ((f : ℕ → ℕ) → Flow p f → ⊥)
-    held_no_exactly_if_no_flow {a} Runs x = (λ no. absurd (omega arith), λ none. absurd (none (at a) x.says.1.first.flow))
-    held_no_exactly_if_no_flow (Short v) x = (λ no f c. flow_or_short accepted c x.says.1.0, λ none. refl)
-    held_no_exactly_if_no_flow Outside x =
+    held_no_exactly_if_no_flow {a} (Ok u) x = (λ no. absurd (omega arith), λ none. absurd (none (at a) x.says.1.first.flow))
+    held_no_exactly_if_no_flow (Err (Short v)) x = (λ no f c. flow_or_short accepted c x.says.1.0, λ none. refl)
+    held_no_exactly_if_no_flow (Err Outside) x =
         let o = x.says.1.0.narrowed.low_end.occurs in
         (λ no. absurd (omega arith), λ none. absurd (none o.counts o.flow))
-    held_no_exactly_if_no_flow (Refused m i) x = absurd (accepted_or_refused accepted x.says.0)
+    held_no_exactly_if_no_flow (Err (Refused r)) x = absurd (accepted_or_refused accepted x.says.0)
 
     -- and number 10 exactly if the arc has a narrowed range and the count lies outside it
     pub held_ten_exactly_if_outside : {a : List ℕ} (r : Answer) → HeldAnswers p arc count arcs a r
         → (number r ≡ 10) ↔ OutsideRange p arc count
-    held_ten_exactly_if_outside Runs x =
+    held_ten_exactly_if_outside (Ok u) x =
         (λ ten. absurd (omega arith), λ out. absurd (outside_never out (first_occurs x.says.1.first)))
-    held_ten_exactly_if_outside (Short v) x =
+    held_ten_exactly_if_outside (Err (Short v)) x =
         (λ ten. absurd (omega arith), λ out. absurd (flow_or_short accepted out.narrowed.low_end.occurs.flow x.says.1.0))
-    held_ten_exactly_if_outside Outside x = (λ ten. x.says.1.0, λ out. refl)
-    held_ten_exactly_if_outside (Refused m i) x = absurd (accepted_or_refused accepted x.says.0)
+    held_ten_exactly_if_outside (Err Outside) x = (λ ten. x.says.1.0, λ out. refl)
+    held_ten_exactly_if_outside (Err (Refused r)) x = absurd (accepted_or_refused accepted x.says.0)

@@ -5,28 +5,32 @@
 pub mod request;
 
 ghost use Rattle.std.specs.Prelude.{◌≡◌};
-ghost use Rattle.held.specs.Answer.{answer_to};
+ghost use Rattle.held.specs.declared.Unheld.TheVariants.{Short, Refused};
 
-use stand::Asked;
+use plan::Refusal;
+use stand::Shortage;
 
-// There is such a flow; or there is none at all, with the greatest shortfall; or the count is outside the
-// lane's narrowed range; or the number and the lowest place by which the input is turned down.
-#[derive(Clone, Copy)]
-pub enum Answer {
-    Runs,
+// Why there is no such flow: there is none at all, and the greatest shortfall is so much; or the count is
+// outside the lane's narrowed range; or the input is turned down.
+#[derive(Clone, Copy, PartialEq, Eq)]
+pub enum Unheld {
     Short(i64),
     Outside,
-    Refused(u32, usize),
+    Refused(Refusal),
 }
 
-impl Answer {
-    // What a plan is told that was asked, before a lane is held.
-    pub fn to(asked: Asked) -> Answer
-        ensures { result ≡ answer_to asked }
-    {
-        match asked {
-            Asked::Balances => Answer::Runs,
-            Asked::Lacks(value) => Answer::Short(value),
-        }
+impl From<Refusal> for Unheld {
+    ghost from_gives = { λ refusal no. no ≡ Refused refusal };
+
+    fn from(refusal: Refusal) -> Unheld {
+        Unheld::Refused(refusal)
+    }
+}
+
+impl From<Shortage> for Unheld {
+    ghost from_gives = { λ shortage no. no ≡ Short shortage.value };
+
+    fn from(shortage: Shortage) -> Unheld {
+        Unheld::Short(shortage.value)
     }
 }

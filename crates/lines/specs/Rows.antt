@@ -4,7 +4,7 @@ use Rattle.text.specs.Words.{Text}
 use Rattle.text.specs.Texts.{texts}
 use Rattle.plan.specs.Limits.{arc_entries}
 use Rattle.plan.specs.Plan.{Set}
-use Rattle.lists.specs.Written.{arc_in}
+use Rattle.plan.specs.Plan.{arc_in}
 use Rattle.lines.specs.Lines.{arc_line, cited_line}
 
 -- the nodes that are marked 1

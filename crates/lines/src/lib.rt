@@ -1,66 +1,57 @@
 // The lines of a listing, printed on a page that is lent: of numbers, and of lists that are lent. Each function asks for room for
-// exactly what it prints, gives the place after it, and changes nothing else. It uses `text` for words and numbers, and `lists`
-// for an arc of a list. Internal.
+// exactly what it prints, moves the page's place past it, and changes nothing else. It uses `text` for words and numbers, and
+// `plan` for an arc of a list. Internal.
 #![tactic(auto)]
 
-ghost use Rattle.std.specs.Prelude.{◌/◌, ◌≤◌, ◌<◌, length};
+ghost use Rattle.std.specs.Prelude.{◌/◌, ◌≤◌, length};
 ghost use Rattle.plan.specs.Limits.{arc_entries};
-ghost use Rattle.text.specs.Texts.{texts};
-ghost use Rattle.text.specs.Page.{Printable, Printed};
-ghost use Rattle.lines.specs.Lines.{pair_line, size_line, refused_line, arc_line, none_line, member, set_line, cited_line};
+ghost use Rattle.text.specs.Page.{RoomFor, PrintedOn};
+ghost use Rattle.lines.specs.Lines.{pair_line, size_line, refused_line, arc_line, none_line, set_line, cited_line};
 ghost use Rattle.lines.specs.Rows.{marked, arc_rows, cited_rows};
 
-use lists::arc_at;
 use plan::Arc;
-use text::{print_fields, print_line, print_word};
+use text::Page;
 
 // Two words, each with a number after it.
-fn print_pair(page: &mut [u8], at: usize, first: &[u8], x: u64, second: &[u8], y: u64) -> usize
-    requires { Printable (pair_line first.now x second.now y) at page.old }
-    ensures { Printed (pair_line first.now x second.now y) at page.old page.new result }
+fn print_pair(page: &mut Page, first: &[u8], x: u64, second: &[u8], y: u64)
+    requires { RoomFor (pair_line first.now x second.now y) page.old }
+    ensures { PrintedOn (pair_line first.now x second.now y) page.old page.new }
 {
-    let named = print_word(page, at, first);
-    let counted = print_fields(page, named, &[x]);
-    print_line(page, counted, second, &[y])
+    page.print_word(first);
+    page.print_fields(&[x]);
+    page.print_line(second, &[y]);
 }
 
-pub fn print_size(page: &mut [u8], at: usize, nodes: usize, arcs: usize) -> usize
-    requires { Printable (size_line nodes arcs) at page.old }
-    ensures { Printed (size_line nodes arcs) at page.old page.new result }
+// How many nodes and arcs a plan has.
+pub fn print_size(page: &mut Page, nodes: usize, arcs: usize)
+    requires { RoomFor (size_line nodes arcs) page.old }
+    ensures { PrintedOn (size_line nodes arcs) page.old page.new }
 {
-    print_pair(page, at, b"nodes", nodes as u64, b" arcs", arcs as u64)
+    print_pair(page, b"nodes", nodes as u64, b" arcs", arcs as u64);
 }
 
-pub fn print_refused(page: &mut [u8], at: usize, number: u32, index: usize) -> usize
-    requires { Printable (refused_line number index) at page.old }
-    ensures { Printed (refused_line number index) at page.old page.new result }
+// The number by which a file is turned down, and the index of what it is about.
+pub fn print_refused(page: &mut Page, number: u32, index: usize)
+    requires { RoomFor (refused_line number index) page.old }
+    ensures { PrintedOn (refused_line number index) page.old page.new }
 {
-    print_pair(page, at, b"refused", number as u64, b" at", index as u64)
+    print_pair(page, b"refused", number as u64, b" at", index as u64);
 }
 
-pub fn print_none(page: &mut [u8], at: usize, shortfall: u64) -> usize
-    requires { Printable (none_line shortfall) at page.old }
-    ensures { Printed (none_line shortfall) at page.old page.new result }
+// That a plan has no flow, and by how much.
+pub fn print_none(page: &mut Page, shortfall: u64)
+    requires { RoomFor (none_line shortfall) page.old }
+    ensures { PrintedOn (none_line shortfall) page.old page.new }
 {
-    print_line(page, at, b"none", &[shortfall])
+    page.print_line(b"none", &[shortfall]);
 }
 
 // The line of arc k, which has this count in the first flow and this narrowed range.
-fn print_arc(
-    page: &mut [u8],
-    at: usize,
-    k: usize,
-    arc: Arc,
-    count: u32,
-    low: u32,
-    high: u32,
-) -> usize
-    requires { Printable (arc_line k arc count low high) at page.old }
-    ensures { Printed (arc_line k arc count low high) at page.old page.new result }
+fn print_arc(page: &mut Page, k: usize, arc: Arc, count: u32, low: u32, high: u32)
+    requires { RoomFor (arc_line k arc count low high) page.old }
+    ensures { PrintedOn (arc_line k arc count low high) page.old page.new }
 {
-    print_line(
-        page,
-        at,
+    page.print_line(
         b"arc",
         &[
             k as u64,
@@ -72,93 +63,55 @@ fn print_arc(
             low as u64,
             high as u64,
         ],
-    )
+    );
 }
 
 // A line for each arc.
-pub fn print_arcs(
-    page: &mut [u8],
-    at: usize,
-    arcs: &[u32],
-    counts: &[u32],
-    lows: &[u32],
-    highs: &[u32],
-) -> usize
+pub fn print_arcs(page: &mut Page, arcs: &[u32], counts: &[u32], lows: &[u32], highs: &[u32])
     requires counts { length arcs.now / arc_entries ≤ length counts.now }
     requires lows { length arcs.now / arc_entries ≤ length lows.now }
     requires highs { length arcs.now / arc_entries ≤ length highs.now }
-    requires page { Printable (arc_rows arcs.now counts.now lows.now highs.now) at page.old }
-    ensures { Printed (arc_rows arcs.now counts.now lows.now highs.now) at page.old page.new result }
+    requires page { RoomFor (arc_rows arcs.now counts.now lows.now highs.now) page.old }
+    ensures { PrintedOn (arc_rows arcs.now counts.now lows.now highs.now) page.old page.new }
 {
-    let mut next = at;
-    let mut k = 0;
-    while k < arcs.len() / Arc::ENTRIES {
-        next = print_arc(page, next, k, arc_at(arcs, k), counts[k], lows[k], highs[k]);
-        k += 1;
+    for k in 0..arcs.len() / Arc::ENTRIES {
+        print_arc(page, k, Arc::at(arcs, k), counts[k], lows[k], highs[k]);
     }
-    next
-}
-
-// Node v, if it is marked 1.
-fn print_member(page: &mut [u8], at: usize, marks: &[u8], v: usize) -> usize
-    requires node { v < length marks.now }
-    requires page { Printable (member (marked marks.now) v) at page.old }
-    ensures { Printed (member (marked marks.now) v) at page.old page.new result }
-{
-    if marks[v] == 1 {
-        return print_fields(page, at, &[v as u64]);
-    }
-    at
-}
-
-fn print_members(page: &mut [u8], at: usize, marks: &[u8]) -> usize
-    requires { Printable (texts (length marks.now) (member (marked marks.now))) at page.old }
-    ensures { Printed (texts (length marks.now) (member (marked marks.now))) at page.old page.new result }
-{
-    let mut next = at;
-    let mut v = 0;
-    while v < marks.len() {
-        next = print_member(page, next, marks, v);
-        v += 1;
-    }
-    next
 }
 
 // The nodes that are marked 1, in one line.
-pub fn print_set(page: &mut [u8], at: usize, marks: &[u8]) -> usize
-    requires { Printable (set_line (length marks.now) (marked marks.now)) at page.old }
-    ensures { Printed (set_line (length marks.now) (marked marks.now)) at page.old page.new result }
+pub fn print_set(page: &mut Page, marks: &[u8])
+    requires { RoomFor (set_line (length marks.now) (marked marks.now)) page.old }
+    ensures { PrintedOn (set_line (length marks.now) (marked marks.now)) page.old page.new }
 {
-    let named = print_word(page, at, b"in");
-    let listed = print_members(page, named, marks);
-    print_word(page, listed, b"\n")
+    page.print_word(b"in");
+    for (v, &mark) in marks.iter().enumerate() {
+        if mark == 1 {
+            page.print_fields(&[v as u64]);
+        }
+    }
+    page.print_word(b"\n");
 }
 
 // The line of arc k, if its high (2) or its low (1) is cited.
-fn print_cited(page: &mut [u8], at: usize, mark: u32, k: usize, arc: Arc) -> usize
-    requires { Printable (cited_line mark k arc) at page.old }
-    ensures { Printed (cited_line mark k arc) at page.old page.new result }
+fn print_cited(page: &mut Page, mark: u32, k: usize, arc: Arc)
+    requires { RoomFor (cited_line mark k arc) page.old }
+    ensures { PrintedOn (cited_line mark k arc) page.old page.new }
 {
-    if mark == 2 {
-        return print_pair(page, at, b"cites", k as u64, b" high", arc.high as u64);
+    match mark {
+        2 => print_pair(page, b"cites", k as u64, b" high", arc.high as u64),
+        1 => print_pair(page, b"cites", k as u64, b" low", arc.low as u64),
+        _ => {}
     }
-    if mark == 1 {
-        return print_pair(page, at, b"cites", k as u64, b" low", arc.low as u64);
-    }
-    at
 }
 
 // A line for each bound that is cited, in arc order.
-pub fn print_all_cited(page: &mut [u8], at: usize, arcs: &[u32], marks: &[u32]) -> usize
+pub fn print_all_cited(page: &mut Page, arcs: &[u32], marks: &[u32])
     requires marks { length arcs.now / arc_entries ≤ length marks.now }
-    requires page { Printable (cited_rows arcs.now marks.now) at page.old }
-    ensures { Printed (cited_rows arcs.now marks.now) at page.old page.new result }
+    requires page { RoomFor (cited_rows arcs.now marks.now) page.old }
+    ensures { PrintedOn (cited_rows arcs.now marks.now) page.old page.new }
 {
-    let mut next = at;
-    let mut k = 0;
-    while k < arcs.len() / Arc::ENTRIES {
-        next = print_cited(page, next, marks[k], k, arc_at(arcs, k));
-        k += 1;
+    for k in 0..arcs.len() / Arc::ENTRIES {
+        print_cited(page, marks[k], k, Arc::at(arcs, k));
     }
-    next
 }

@@ -7,13 +7,12 @@ use mathlib.Core.Logic.{inl, inr, ⊎_elim}
 use native.Mathlib.Decide.{dec_lt}
 use lib.IntN.{pos, nat_abs}
 use lib.Signed.{◌<ℤ◌}
+use Rattle.std.specs.Prelude.{Ok, Err}
 use Rattle.text.specs.Words.{Text}
 use Rattle.plan.specs.Plan.{Plan, Set, WellFormed}
 use Rattle.plan.specs.Flow.{HasFlow, Narrowed}
 use Rattle.plan.specs.Shortage.{shortfall, Shortage}
-use Rattle.plan.specs.Verdict.{verdict}
-use Rattle.plan.specs.declared.Verdict.{Verdict}
-use Rattle.plan.specs.declared.Verdict.TheVariants.{Accepted, Refused}
+use Rattle.plan.specs.Verdict.{number_of, verdict, Verdict, Accepted}
 use Rattle.plan.proofs.Hoffman.{flow_or_shortage}
 use Rattle.plan.proofs.Exists.{first_flow_exists, narrowed_exists}
 use Rattle.format.specs.Format.{Edition}
@@ -58,7 +57,11 @@ module _ (p : Plan) (w : WellFormed p) where
     record {
       shortfall = nat_abs (shortfall p S);
       set = S;
-      short = record { shortage = shortage; value_is = sym (above_zero (shortfall p S) short); positive = rw (above_zero (shortfall p S) short) short };
+      short = record {
+        shortage = shortage;
+        value_is = sym (above_zero (shortfall p S) short);
+        positive = rw (above_zero (shortfall p S) short) short;
+      };
       text_is = refl;
     },
   )
@@ -70,8 +73,8 @@ module _ (p : Plan) (w : WellFormed p) where
       (flow_or_shortage p w)
 
 verdict_listed : (p : Plan) (v : Verdict) → (v ≡ Accepted → WellFormed p) → (text : Text) × VerdictListing v p text
-verdict_listed p Accepted w = plan_listed p (w refl)
-verdict_listed p (Refused number index) w = (refused_line number index, refl)
+verdict_listed p (Ok u) w = plan_listed p (w refl)
+verdict_listed p (Err r) w = (refused_line (number_of r.fault) r.place, refl)
 
 pub every_file_listed : (e : Edition) (file : List ℕ) → (text : Text) × Listing e file text
 every_file_listed e file =

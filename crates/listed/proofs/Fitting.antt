@@ -32,7 +32,10 @@ refused_fits number index small little = omega (arith, pair_short 19 (word "refu
 
 module _ (p : Plan) (w : WellFormed p) where
   size_short : length (size_line p.nodes p.arcs) ≤ 23
-  size_short = omega (arith, pair_short 4 (word "nodes") p.nodes (word " arcs") p.arcs (omega (arith, w.nodes_fit)) (omega (arith, w.arcs_fit)))
+  size_short = omega (
+    arith,
+    pair_short 4 (word "nodes") p.nodes (word " arcs") p.arcs (omega (arith, w.nodes_fit)) (omega (arith, w.arcs_fit)),
+  )
 
   pub flow_fits : {counts lows highs : ℕ → ℕ} → FirstFlow p counts → ((k : ℕ) → k < p.arcs → Narrowed p k (lows k) (highs k))
       → length (flow_text p counts lows highs) ≤ page_size
@@ -98,7 +101,17 @@ module _ (p : Plan) (w : WellFormed p) where
       cited_short : (k : ℕ) → k < p.arcs → (mark : ℕ) → length (cited_line mark k (arc_of p k)) ≤ 23
       cited_short k l mark = by (eqb mark 2) (eqb mark 1)
         where
-          by : (high low : Bool) → length (cond high (pair_line (word "cites") k (word " high") (p.high k)) (cond low (pair_line (word "cites") k (word " low") (p.low k)) [])) ≤ 23
-          by true low = pair_short 4 (word "cites") k (word " high") (p.high k) (omega (arith, w.arcs_fit)) (omega (arith, w.high_fits k l))
-          by false true = omega (arith, pair_short 4 (word "cites") k (word " low") (p.low k) (omega (arith, w.arcs_fit)) (omega (arith, w.high_fits k l, w.uncrossed k l)))
+          k_short : k < base ^ 5
+          k_short = omega (arith, w.arcs_fit)
+
+          high_short : p.high k < base ^ 5
+          high_short = omega (arith, w.high_fits k l)
+
+          low_short : p.low k < base ^ 5
+          low_short = omega (arith, w.high_fits k l, w.uncrossed k l)
+
+          by : (high low : Bool) → length (cond high (pair_line (word "cites") k (word " high") (p.high k))
+              (cond low (pair_line (word "cites") k (word " low") (p.low k)) [])) ≤ 23
+          by true low = pair_short 4 (word "cites") k (word " high") (p.high k) k_short high_short
+          by false true = omega (arith, pair_short 4 (word "cites") k (word " low") (p.low k) k_short low_short)
           by false false = omega arith

@@ -5,14 +5,13 @@ use mathlib.Core.Bool.{false}
 use mathlib.Core.List.{List, ◌++◌}
 use mathlib.Core.Logic.{inl, inr}
 use lib.IntN.{nat_abs}
+use Rattle.std.specs.Prelude.{Ok, Err}
 use Rattle.text.specs.Words.{Text}
 use Rattle.text.specs.Page.{Filled}
 use Rattle.text.proofs.Printing.{texts_same, filled_unique}
 use Rattle.plan.specs.Plan.{Plan, WellFormed}
 use Rattle.plan.specs.Reason.{no_marks}
-use Rattle.plan.specs.Verdict.{verdict}
-use Rattle.plan.specs.declared.Verdict.{Verdict}
-use Rattle.plan.specs.declared.Verdict.TheVariants.{Accepted, Refused}
+use Rattle.plan.specs.Verdict.{verdict, Verdict, Accepted}
 use Rattle.plan.proofs.Unique.{first_flow_unique, narrowed_unique, shortage_unique, short_by_unique, short_or_flow}
 use Rattle.plan.proofs.EitherEnd.{no_marks_alike}
 use Rattle.format.specs.Format.{Edition}
@@ -56,12 +55,13 @@ module _ (p : Plan) (w : WellFormed p) where
 
 verdict_listing_unique : (p : Plan) (v : Verdict) → (v ≡ Accepted → WellFormed p) → {a b : Text}
     → VerdictListing v p a → VerdictListing v p b → a ≡ b
-verdict_listing_unique p Accepted w x y = plan_listing_unique p (w refl) x y
-verdict_listing_unique p (Refused number index) w x y = x ∙ sym y
+verdict_listing_unique p (Ok u) w x y = plan_listing_unique p (w refl) x y
+verdict_listing_unique p (Err r) w x y = x ∙ sym y
 
 pub listing_unique : (e : Edition) (file : List ℕ) {a b : Text} → Listing e file a → Listing e file b → a ≡ b
 listing_unique e file x y =
-    verdict_listing_unique (held e file) (verdict (reading_rules e file false)) (reading_well_formed e file false) x.listed y.listed
+    verdict_listing_unique (held e file) (verdict (reading_rules e file false)) (reading_well_formed e file false)
+    x.listed y.listed
 
 -- so one content of the page, and one length
 pub listing_printed_unique : (e : Edition) (file : List ℕ) {page a b : Text} {n m : ℕ}

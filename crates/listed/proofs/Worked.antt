@@ -10,7 +10,8 @@ use Rattle.text.specs.Decimal.{places, decimal}
 use Rattle.text.specs.Texts.{texts}
 use Rattle.plan.specs.Plan.{Plan, plan_of}
 use Rattle.plan.specs.Flow.{Narrowed}
-use Rattle.plan.proofs.Worked.{Range, ◌upto◌, stands, runs, short, Row, row, count, entry, marked, RangeHolds, worked, worked_plans}
+use Rattle.plan.proofs.Worked.{Range, ◌upto◌, stands, runs, short, Row, row, count, entry, marked, RangeHolds}
+use Rattle.plan.proofs.Worked.{worked, worked_plans}
 use Rattle.listed.specs.Listing.{PlanListing}
 
 -- lines, each ended by a line feed

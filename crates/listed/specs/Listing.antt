@@ -1,6 +1,6 @@
--- The listing of a plan file, whole: of the plan that it holds the first flow and the narrowed ranges, or the shortage set and the
--- bounds that its sum cites; of a file that is turned down the number and the index.
-use Rattle.std.specs.Prelude.{ℕ, ◌≤◌, ◌<◌, ◌≡◌, false, List, ◌++◌, ◌⊎◌, pos, length, get_or}
+-- The listing of a plan file, whole: of the plan that it holds the first flow and the narrowed ranges, or the shortage set and
+-- the bounds that its sum cites; of a file that is turned down the number and the index.
+use Rattle.std.specs.Prelude.{ℕ, ◌≤◌, ◌<◌, ◌≡◌, false, List, ◌++◌, ◌⊎◌, pos, length, get_or, Ok, Err}
 use Rattle.numbers.specs.Sums.{only}
 use Rattle.text.specs.Words.{Text}
 use Rattle.text.specs.Texts.{texts}
@@ -8,10 +8,8 @@ use Rattle.plan.specs.Plan.{Plan, Set}
 use Rattle.plan.specs.Flow.{FirstFlow, Narrowed}
 use Rattle.plan.specs.Shortage.{ShortBy}
 use Rattle.plan.specs.Reason.{no_marks}
-use Rattle.plan.specs.Verdict.{verdict}
+use Rattle.plan.specs.Verdict.{number_of, verdict, Verdict}
 use Rattle.plan.specs.declared.Arc.{Arc}
-use Rattle.plan.specs.declared.Verdict.{Verdict}
-use Rattle.plan.specs.declared.Verdict.TheVariants.{Accepted, Refused}
 use Rattle.format.specs.Format.{Edition}
 use Rattle.format.specs.Held.{held}
 use Rattle.blocks.specs.Rules.{reading_rules}
@@ -56,8 +54,8 @@ PlanListing p text = FlowListing p text ⊎ NoListing p text
 
 -- by what is said of the file that holds the plan: nothing is printed before a number
 abbrev pub VerdictListing : Verdict → Plan → Text → Type 0
-VerdictListing Accepted p text = PlanListing p text
-VerdictListing (Refused number index) p text = text ≡ refused_line number index
+VerdictListing (Ok u) p text = PlanListing p text
+VerdictListing (Err refusal) p text = text ≡ refused_line (number_of refusal.fault) refusal.place
 
 -- the listing of a file, for every list of bytes: 11, 12, 13, 1, 2, 14, 4, 5, 6, 7 turn it down
 pub record Listing (e : Edition) (file : List ℕ) (text : Text) : Type 0 where

@@ -2,180 +2,115 @@
 // A thin program: `reading` reads, `flow` and `narrow` answer, `say` prints. A read or a print that fails ends it.
 #![tactic(auto)]
 
-ghost use Rattle.std.specs.Prelude.{◌/◌, ◌≤◌, ◌<◌, length, IfOk};
+ghost use Rattle.std.specs.Prelude.{◌/◌, ◌≤◌, length, IfOk};
 ghost use Rattle.plan.specs.Limits.{most_arcs, arc_entries};
 
-use flow::Answer;
 use flow::question::question;
 use format::Edition;
 use narrow::request::narrow;
-use plan::{Arc, Plan};
+use plan::{Arc, Network, No, Plan, Refusal};
 use reading::read;
 use std::io;
 use std::io::{Input, Print, Read};
 
-fn end_line<P: Print>(to: &P) -> io::Result<()> {
-    say::text(to, b"\n")?;
-    Ok(())
-}
-
-// Entry i of a list.
-fn say_entry<P: Print>(to: &P, list: &[u32], i: usize) -> io::Result<()>
-    requires { i < length list.now }
-{
-    say::number(to, list[i] as u64)?;
-    Ok(())
-}
-
-// The line of arc k: its index, ends and range, its count in the first flow and its narrowed range.
-fn say_arc<P: Print>(
-    to: &P,
-    arcs: &[u32],
-    counts: &[u32],
-    lows: &[u32],
-    highs: &[u32],
-    k: usize,
-) -> io::Result<()>
-    requires { (k < length arcs.now / arc_entries) × (k < length counts.now) × (k < length lows.now) × (k < length highs.now) }
-{
-    let first = k * Arc::ENTRIES;
-    say::text(to, b"arc")?;
-    say::number(to, k as u64)?;
-    say_entry(to, arcs, first)?;
-    say_entry(to, arcs, first + 1)?;
-    say_entry(to, arcs, first + 2)?;
-    say_entry(to, arcs, first + 3)?;
-    say_entry(to, counts, k)?;
-    say_entry(to, lows, k)?;
-    say_entry(to, highs, k)?;
-    end_line(to)?;
-    Ok(())
-}
-
-// A line for each arc of a plan that runs.
+// A line for each arc of a plan that runs: its index, ends and range, its count in the first flow and its narrowed range.
 fn say_arcs<P: Print>(
     to: &P,
-    arcs: &[u32],
+    network: Network,
     counts: &[u32],
     lows: &[u32],
     highs: &[u32],
 ) -> io::Result<()>
-    requires { (length arcs.now / arc_entries ≤ length counts.now) × (length arcs.now / arc_entries ≤ length lows.now) × (length arcs.now / arc_entries ≤ length highs.now) }
+    requires counts { length network.arcs.now / arc_entries ≤ length counts.now }
+    requires lows { length network.arcs.now / arc_entries ≤ length lows.now }
+    requires highs { length network.arcs.now / arc_entries ≤ length highs.now }
 {
-    let mut k = 0;
-    while k < arcs.len() / Arc::ENTRIES {
-        say_arc(to, arcs, counts, lows, highs, k)?;
-        k += 1;
+    for k in 0..network.size().arcs {
+        let arc = network.arc(k);
+        print!(to; "arc {k} {} {} {} {}", arc.from, arc.to, arc.low, arc.high)?;
+        println!(to; " {} {} {}", counts[k], lows[k], highs[k])?;
     }
     Ok(())
 }
 
 // The narrowed ranges of a plan that runs, beside the counts of its first flow.
-fn say_flow<P: Print>(to: &P, arcs: &[u32], supplies: &[i32], counts: &[u32]) -> io::Result<()>
-    requires { (length arcs.now / arc_entries ≤ most_arcs) × (length arcs.now / arc_entries ≤ length counts.now) }
+fn say_flow<P: Print>(to: &P, network: Network, counts: &[u32]) -> io::Result<()>
+    requires arcs { length network.arcs.now / arc_entries ≤ most_arcs }
+    requires counts { length network.arcs.now / arc_entries ≤ length counts.now }
 {
     let mut lows = [0u32; Plan::MOST_ARCS];
     let mut highs = [0u32; Plan::MOST_ARCS];
-    narrow(arcs, supplies, &mut lows, &mut highs);
-    say_arcs(to, arcs, counts, &lows, &highs)?;
-    Ok(())
+    let _ = narrow(network, &mut lows, &mut highs);
+    say_arcs(to, network, counts, &lows, &highs)
 }
 
 // The nodes of the shortage set, in one line.
 fn say_set<P: Print>(to: &P, marks: &[u8]) -> io::Result<()> {
-    say::text(to, b"in")?;
+    to.print("in")?;
     say::set(to, marks)?;
-    end_line(to)?;
-    Ok(())
+    println!(to)
 }
 
-// The line of a bound that is cited.
-fn say_bound<P: Print>(to: &P, k: usize, end: &[u8], bound: u32) -> io::Result<()> {
-    say::text(to, b"cites")?;
-    say::number(to, k as u64)?;
-    say::text(to, end)?;
-    say::number(to, bound as u64)?;
-    end_line(to)?;
-    Ok(())
-}
-
-// The line of arc k, if its low (1) or its high (2) is cited.
-fn say_cited<P: Print>(to: &P, arcs: &[u32], mark: u32, k: usize) -> io::Result<()>
-    requires { k < length arcs.now / arc_entries }
+// A line for each bound that is cited, in arc order: 1 marks the low, 2 the high.
+fn say_cited<P: Print>(to: &P, network: Network, marks: &[u32]) -> io::Result<()>
+    requires { length network.arcs.now / arc_entries ≤ length marks.now }
 {
-    if mark == 1 {
-        say_bound(to, k, b" low", arcs[k * Arc::ENTRIES + 2])?;
-    }
-    if mark == 2 {
-        say_bound(to, k, b" high", arcs[k * Arc::ENTRIES + 3])?;
-    }
-    Ok(())
-}
-
-// A line for each bound that is cited, in arc order.
-fn say_all_cited<P: Print>(to: &P, arcs: &[u32], marks: &[u32]) -> io::Result<()>
-    requires { length arcs.now / arc_entries ≤ length marks.now }
-{
-    let mut k = 0;
-    while k < arcs.len() / Arc::ENTRIES {
-        say_cited(to, arcs, marks[k], k)?;
-        k += 1;
+    for k in 0..network.size().arcs {
+        match marks[k] {
+            1 => println!(to; "cites {k} low {}", network.arc(k).low)?,
+            2 => println!(to; "cites {k} high {}", network.arc(k).high)?,
+            _ => {}
+        }
     }
     Ok(())
 }
 
+// That there is no flow, and by how much.
 fn say_none<P: Print>(to: &P, value: i64) -> io::Result<()> {
-    say::text(to, b"none")?;
+    to.print("none")?;
     say::shortfall(to, value)?;
-    end_line(to)?;
-    Ok(())
+    println!(to)
 }
 
-fn say_refused<P: Print>(to: &P, number: u32, index: usize) -> io::Result<()> {
-    say::refused(to, number, index)?;
-    end_line(to)?;
-    Ok(())
-}
-
-fn say_size<P: Print>(to: &P, nodes: usize, count: usize) -> io::Result<()> {
-    say::text(to, b"nodes")?;
-    say::number(to, nodes as u64)?;
-    say::text(to, b" arcs")?;
-    say::number(to, count as u64)?;
-    end_line(to)?;
-    Ok(())
+// By which number the file is turned down, and for which place.
+fn say_refused<P: Print>(to: &P, refusal: Refusal) -> io::Result<()> {
+    say::refused(to, refusal.fault.number(), refusal.place)?;
+    println!(to)
 }
 
 // The plan of an accepted file. Such a plan is not turned down.
-fn list_plan<P: Print>(to: &P, arcs: &[u32], supplies: &[i32]) -> io::Result<()>
-    requires { length arcs.now / arc_entries ≤ most_arcs }
+fn list_plan<P: Print>(to: &P, network: Network) -> io::Result<()>
+    requires { length network.arcs.now / arc_entries ≤ most_arcs }
 {
     let mut counts = [0u32; Plan::MOST_ARCS];
     let mut marks = [0u8; Plan::MOST_NODES];
-    say_size(to, supplies.len(), arcs.len() / Arc::ENTRIES)?;
-    match question(arcs, supplies, &mut counts, &mut marks) {
-        Answer::Runs => say_flow(to, arcs, supplies, &counts)?,
-        Answer::Short(value) => {
+    let Plan { nodes, arcs } = network.size();
+    println!(to; "nodes {nodes} arcs {arcs}")?;
+    match question(network, &mut counts, &mut marks) {
+        Ok(()) => say_flow(to, network, &counts),
+        Err(No::Short(value)) => {
             say_none(to, value)?;
             say_set(to, &marks)?;
-            say_all_cited(to, arcs, &counts)?;
+            say_cited(to, network, &counts)
         }
-        Answer::Refused(number, index) => say_refused(to, number, index)?,
+        Err(No::Refused(refusal)) => say_refused(to, refusal),
     }
-    Ok(())
 }
 
+// The listing of a file, whatever bytes it has.
 fn list<P: Print>(to: &P, file: &[u8]) -> io::Result<()> {
     let mut supplies = [0i32; Plan::MOST_NODES];
     let mut arcs = [0u32; Plan::MOST_ARCS * Arc::ENTRIES];
     match read(file, &mut supplies, &mut arcs) {
-        file::Answer::Read(nodes, count) => {
-            let entries = count * Arc::ENTRIES;
-            list_plan(to, &arcs[..entries], &supplies[..nodes])?;
+        Ok(size) => {
+            let network = Network {
+                arcs: &arcs[..size.arcs * Arc::ENTRIES],
+                supplies: &supplies[..size.nodes],
+            };
+            list_plan(to, network)
         }
-        file::Answer::Refused(number, index) => say_refused(to, number, index)?,
+        Err(refusal) => say_refused(to, refusal),
     }
-    Ok(())
 }
 
 // Reads into the bytes that are lent until they are full or the input ends, and returns how many were read.

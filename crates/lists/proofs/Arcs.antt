@@ -1,104 +1,60 @@
--- An arc is written by its four numbers, one after another; with it the list has one arc more of the plan; and there is one such
+-- No arc of a plan is written, then those that follow, as far as what holds of them makes them the plan's; and there is one such
 -- content.
-use Prim.Native.Nat.{ℕ, zero, suc, ◌+◌, ◌*◌, ◌/◌, ◌%◌, ◌<◌}
-use mathlib.Core.Path.{◌≡◌, refl, sym, ap, ◌∙◌}
+use Prim.Native.Nat.{ℕ, zero, suc, ◌+◌, ◌-◌, ◌*◌, ◌/◌, ◌%◌, ◌≤◌, ◌<◌}
+use mathlib.Core.Path.{◌≡◌, sym, ap, ◌∙◌}
 use mathlib.Core.List.{List}
 use mathlib.Core.Logic.{by_cases}
 use native.Mathlib.Omega.{arith}
-use native.Mathlib.Decide.{ℕ_discrete}
-use lib.ListN.{length, get_or, set, length-set}
-use lib.Seq.{get_or-set_same, get_or-set_other}
+use native.Mathlib.Decide.{dec_lt}
+use lib.ListN.{length, get_or}
 use Rattle.plan.specs.Limits.{arc_entries}
-use Rattle.plan.specs.Plan.{Plan}
-use Rattle.lists.specs.Written.{ArcWritten, ArcsWritten}
+use Rattle.plan.specs.Plan.{Plan, arc_in}
+use Rattle.plan.specs.declared.Arc.{Arc}
+use Rattle.lists.specs.Written.{ArcWritten, ArcsHold, ArcsWritten}
 use Rattle.lists.proofs.Entries.{one_content}
-
--- ---- one arc
-
-module _ (arcs : List ℕ) (f a b c d : ℕ) (fits : f + 3 < length arcs) where
-  abbrev one : List ℕ
-  one = set arcs f a
-
-  abbrev two : List ℕ
-  two = set one (f + 1) b
-
-  abbrev three : List ℕ
-  three = set two (f + 2) c
-
-  abbrev four : List ℕ
-  four = set three (f + 3) d
-
-  elsewhere : (i : ℕ) → (i ≡ f → ⊥) → (i ≡ f + 1 → ⊥) → (i ≡ f + 2 → ⊥) → (i ≡ f + 3 → ⊥) → get_or four i 0 ≡ get_or arcs i 0
-  elsewhere i p q r s =
-      get_or-set_other three (f + 3) i d 0 s ∙ get_or-set_other two (f + 2) i c 0 r
-      ∙ get_or-set_other one (f + 1) i b 0 q ∙ get_or-set_other arcs f i a 0 p
-
-  first_is : get_or four f 0 ≡ a
-  first_is = get_or-set_other three (f + 3) f d 0 (λ e. omega arith) ∙ get_or-set_other two (f + 2) f c 0 (λ e. omega arith)
-      ∙ get_or-set_other one (f + 1) f b 0 (λ e. omega arith) ∙ get_or-set_same arcs f a 0 (omega arith)
-
-  second_is : get_or four (f + 1) 0 ≡ b
-  second_is = get_or-set_other three (f + 3) (f + 1) d 0 (λ e. omega arith) ∙ get_or-set_other two (f + 2) (f + 1) c 0 (λ e. omega arith)
-      ∙ get_or-set_same one (f + 1) b 0 (omega (arith, length-set arcs f a))
-
-  third_is : get_or four (f + 2) 0 ≡ c
-  third_is = get_or-set_other three (f + 3) (f + 2) d 0 (λ e. omega arith)
-      ∙ get_or-set_same two (f + 2) c 0 (omega (arith, length-set one (f + 1) b, length-set arcs f a))
-
-  fourth_is : get_or four (f + 3) 0 ≡ d
-  fourth_is = get_or-set_same three (f + 3) d 0 (omega (arith, length-set two (f + 2) c, length-set one (f + 1) b, length-set arcs f a))
-
-module _ (arcs : List ℕ) (k a b c d : ℕ) (fits : k * arc_entries + 3 < length arcs) where
-  abbrev first : ℕ
-  first = k * arc_entries
-
-  pub four_written : ArcWritten k a b c d arcs (four arcs (k * arc_entries) a b c d fits)
-  four_written = record {
-    from_is = first_is arcs first a b c d fits;
-    to_is = second_is arcs first a b c d fits;
-    low_is = third_is arcs first a b c d fits;
-    high_is = fourth_is arcs first a b c d fits;
-    before = λ i l. elsewhere arcs first a b c d fits i (λ e. omega arith) (λ e. omega arith) (λ e. omega arith) (λ e. omega arith);
-    past = λ i l. elsewhere arcs first a b c d fits i (λ e. omega arith) (λ e. omega arith) (λ e. omega arith) (λ e. omega arith);
-  }
 
 -- ---- one arc after another
 
 pub arcs_none : (p : Plan) {arcs : List ℕ} → ArcsWritten p 0 arcs arcs
-arcs_none p = record {
-  same_length = refl;
-  from_is = λ k l. absurd (omega arith);
-  to_is = λ k l. absurd (omega arith);
-  low_is = λ k l. absurd (omega arith);
-  high_is = λ k l. absurd (omega arith);
-  past = λ i l. refl;
-}
+arcs_none p = grind arith
 
--- arc k of the plan is these four numbers
-pub record ArcIs (p : Plan) (k from to low high : ℕ) : Type 0 where
-  pub from_is : from ≡ p.from k
-  pub to_is : to ≡ p.to k
-  pub low_is : low ≡ p.low k
-  pub high_is : high ≡ p.high k
+-- one arc more
+pub arc_holds : {holds : ℕ → Arc → Type 0} {first n : ℕ} {before arcs arcs' : List ℕ} (a : Arc) → length arcs' ≡ length arcs
+    → ArcWritten (first + n) a.from a.to a.low a.high arcs arcs' → holds n a → ArcsHold holds first n before arcs
+    → ArcsHold holds first (n + 1) before arcs'
+arc_holds a same w is x = grind arith
 
-pub arcs_on : {p : Plan} {m from to low high : ℕ} {before arcs arcs' : List ℕ} → length arcs' ≡ length arcs
-    → ArcWritten m from to low high arcs arcs' → ArcIs p m from to low high
-    → ArcsWritten p m before arcs → ArcsWritten p (m + 1) before arcs'
-arcs_on {p} {m} {from} {to} {low} {high} {before} {arcs} {arcs'} same w is x = record {
-  same_length = same ∙ x.same_length;
-  from_is = entry (λ k. k * arc_entries) p.from (λ k l. omega arith) x.from_is (w.from_is ∙ is.from_is);
-  to_is = entry (λ k. k * arc_entries + 1) p.to (λ k l. omega arith) x.to_is (w.to_is ∙ is.to_is);
-  low_is = entry (λ k. k * arc_entries + 2) p.low (λ k l. omega arith) x.low_is (w.low_is ∙ is.low_is);
-  high_is = entry (λ k. k * arc_entries + 3) p.high (λ k l. omega arith) x.high_is (w.high_is ∙ is.high_is);
-  past = λ i l. w.past i (omega arith) ∙ x.past i (omega arith);
+-- arc k of the plan
+abbrev pub arc_of : Plan → ℕ → Arc
+arc_of p k = record { from = p.from k; to = p.to k; low = p.low k; high = p.high k }
+
+-- where what holds of the arcs that follow makes them the plan's, so many more of the plan stand there
+pub arcs_follow : {p : Plan} {holds : ℕ → Arc → Type 0} {first count : ℕ} {before arcs arcs' : List ℕ}
+    → ArcsHold holds first count arcs arcs' → ((j : ℕ) (a : Arc) → j < count → holds j a → a ≡ arc_of p (first + j))
+    → ArcsWritten p first before arcs → ArcsWritten p (first + count) before arcs'
+arcs_follow {p} {first = first} {count} {arcs = arcs} {arcs'} w agree x = record {
+  same_length = w.same_length ∙ x.same_length;
+  from_is = entry (λ k. k * arc_entries) p.from (λ k l. omega arith) x.from_is (λ k l r. ap (λ (a : Arc). a.from) (arc k l r));
+  to_is = entry (λ k. k * arc_entries + 1) p.to (λ k l. omega arith) x.to_is (λ k l r. ap (λ (a : Arc). a.to) (arc k l r));
+  low_is = entry (λ k. k * arc_entries + 2) p.low (λ k l. omega arith) x.low_is (λ k l r. ap (λ (a : Arc). a.low) (arc k l r));
+  high_is = entry (λ k. k * arc_entries + 3) p.high (λ k l. omega arith) x.high_is
+      (λ k l r. ap (λ (a : Arc). a.high) (arc k l r));
+  past = λ i l. w.past i l ∙ x.past i (omega arith);
 }
   where
-    -- one of the four numbers of every arc below m + 1
-    entry : (place of : ℕ → ℕ) → ((k : ℕ) → k < m → place k < m * arc_entries) → ((k : ℕ) → k < m → get_or arcs (place k) 0 ≡ of k)
-        → get_or arcs' (place m) 0 ≡ of m → (k : ℕ) → k < m + 1 → get_or arcs' (place k) 0 ≡ of k
-    entry place of within earlier here k l = by_cases (ℕ_discrete k m)
-        (λ e. rw e here)
-        (λ no. w.before (place k) (within k (omega arith)) ∙ earlier k (omega arith))
+    arc : (k : ℕ) → k < first + count → first ≤ k → arc_in arcs' k ≡ arc_of p k
+    arc k l late =
+        let there : first + (k - first) ≡ k = omega arith in
+        rw there at (agree (k - first) (arc_in arcs' (first + (k - first))) (omega arith) (w.there (k - first) (omega arith)))
+
+    -- one of the four numbers of every arc
+    entry : (place of : ℕ → ℕ) → ((k : ℕ) → k < first → place k < first * arc_entries)
+        → ((k : ℕ) → k < first → get_or arcs (place k) 0 ≡ of k)
+        → ((k : ℕ) → k < first + count → first ≤ k → get_or arcs' (place k) 0 ≡ of k)
+        → (k : ℕ) → k < first + count → get_or arcs' (place k) 0 ≡ of k
+    entry place of within earlier later k l = by_cases (dec_lt k first)
+        (λ early. w.before (place k) (within k early) ∙ earlier k early)
+        (λ no. later k l (omega arith))
 
 -- ---- one content
 

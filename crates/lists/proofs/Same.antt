@@ -9,8 +9,7 @@ use lib.Seq.{length-take-le, get_or-take}
 use Rattle.plan.specs.Limits.{arc_entries}
 use Rattle.plan.specs.Plan.{Plan, plan_of}
 use Rattle.plan.specs.Keeping.{SamePlan}
-use Rattle.plan.specs.Verdict.{verdict, limit_rules}
-use Rattle.plan.specs.declared.Verdict.{Verdict}
+use Rattle.plan.specs.Verdict.{verdict, limit_rules, Verdict}
 use Rattle.plan.proofs.Alike.{limits_alike}
 use Rattle.lists.specs.Written.{ArcsWritten, SuppliesWritten}
 

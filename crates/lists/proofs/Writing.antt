@@ -3,12 +3,17 @@ use Prim.Native.Nat.{ℕ, ◌<◌}
 use mathlib.Core.Path.{◌≡◌, sym, ◌∙◌}
 use mathlib.Core.List.{List}
 use lib.ListN.{length}
-use Rattle.lists.specs.Written.{Written, EntriesWritten}
-use Rattle.lists.proofs.Entries.{one_content}
+use Rattle.lists.specs.Written.{Written, EntriesHold, EntriesWritten}
+use Rattle.lists.proofs.Entries.{one_content, entries_follow}
 
 -- what was written one entry after another
 pub written : {values : ℕ → ℕ} {n : ℕ} {buffer buffer' : List ℕ} → EntriesWritten 0 values n buffer buffer' → Written values n buffer buffer'
 written w = record { there = w.there; past = w.past }
+
+-- what was written by a rule that gives these numbers
+pub written_by : {holds : ℕ → ℕ → Type 0} {values : ℕ → ℕ} {n : ℕ} {buffer buffer' : List ℕ}
+    → EntriesHold 0 holds n buffer buffer' → ((i x : ℕ) → i < n → holds i x → x ≡ values i) → Written values n buffer buffer'
+written_by h gives = written (entries_follow h gives)
 
 -- numbers that agree below n are written alike
 pub written_alike : {values values' : ℕ → ℕ} {n : ℕ} {buffer buffer' : List ℕ} → ((i : ℕ) → i < n → values i ≡ values' i)

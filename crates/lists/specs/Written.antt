@@ -1,17 +1,8 @@
 -- Lent lists that are written from the front: the first entries, arcs or supplies are these, and the rest is as it was.
 use Rattle.std.specs.Prelude.{ℕ, ◌+◌, ◌*◌, ◌≤◌, ◌<◌, ◌≡◌, List, ℤ, pos, length, get_or}
 use Rattle.plan.specs.Limits.{arc_entries}
-use Rattle.plan.specs.Plan.{Plan}
+use Rattle.plan.specs.Plan.{Plan, arc_in}
 use Rattle.plan.specs.declared.Arc.{Arc}
-
--- arc k of a flat list
-abbrev pub arc_in : List ℕ → ℕ → Arc
-arc_in arcs k = record {
-  from = get_or arcs (k * arc_entries) 0;
-  to = get_or arcs (k * arc_entries + 1) 0;
-  low = get_or arcs (k * arc_entries + 2) 0;
-  high = get_or arcs (k * arc_entries + 3) 0;
-}
 
 -- a number for each of the first n entries, and nothing at or past them; the length is said by who uses it
 pub record Written (values : ℕ → ℕ) (n : ℕ) (buffer buffer' : List ℕ) : Type 0 where
@@ -40,6 +31,13 @@ pub record ArcWritten (k from to low high : ℕ) (arcs arcs' : List ℕ) : Type 
   pub high_is : get_or arcs' (k * arc_entries + 3) 0 ≡ high
   pub before : (i : ℕ) → i < k * arc_entries → get_or arcs' i 0 ≡ get_or arcs i 0
   pub past : (i : ℕ) → k * arc_entries + arc_entries ≤ i → get_or arcs' i 0 ≡ get_or arcs i 0
+
+-- something holds of each of so many arcs from arc `first` on, and the rest is as it was
+pub record ArcsHold (holds : ℕ → Arc → Type 0) (first count : ℕ) (arcs arcs' : List ℕ) : Type 0 where
+  pub same_length : length arcs' ≡ length arcs
+  pub there : (j : ℕ) → j < count → holds j (arc_in arcs' (first + j))
+  pub before : (i : ℕ) → i < first * arc_entries → get_or arcs' i 0 ≡ get_or arcs i 0
+  pub past : (i : ℕ) → (first + count) * arc_entries ≤ i → get_or arcs' i 0 ≡ get_or arcs i 0
 
 -- the first m arcs are the plan's
 pub record ArcsWritten (p : Plan) (m : ℕ) (arcs arcs' : List ℕ) : Type 0 where

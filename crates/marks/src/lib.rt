@@ -1,70 +1,73 @@
-// The marks of a "no" or a reason, written to lent buffers. A "no" uses the bounds that a low end uses,
-// and leaves out no arc, so one loop marks for both. It uses `plan` for what is cited, `words` for the
-// set and `lists` for what is written. Internal: most of its functions have `requires`.
+// The marks of a "no" or a reason, written to lent buffers. It uses `plan` for what is cited, `words` for the set and
+// `lists` for writing. Internal: most of its functions have `requires`.
 #![tactic(auto)]
 
 ghost use Rattle.std.specs.Prelude.{◌≡◌, not, ◌&&◌, cond, ◌≤◌, ◌<◌, ◌/◌, eqb, length};
 ghost use Rattle.numbers.specs.Sums.{only};
 ghost use Rattle.words.specs.Word.{word_bits, holds};
-ghost use Rattle.rooms.specs.Room.{at};
 ghost use Rattle.plan.specs.Limits.{widest_low, widest_high, arc_entries};
-ghost use Rattle.plan.specs.Plan.{WellFormed, plan_of};
+ghost use Rattle.plan.specs.Plan.{WellFormed, meant};
 ghost use Rattle.plan.specs.Reason.{no_marks, end_marks};
 ghost use Rattle.lists.specs.Written.{Written};
 
-use plan::{Arc, wide};
+use lists::write_first;
+use plan::{Arc, Network};
 use words::{bit, has};
 
-// The one thing, and not the other.
-fn and_not(this: bool, other: bool) -> bool
-    ensures { result ≡ (this && not other) }
+// The mark of an arc: 2 if a sum uses its high, else 1 if it uses its low, else 0. An end of the widest range itself is
+// not cited.
+fn cite(arc: Arc, high_used: bool, low_used: bool) -> u32
+    ensures { result ≡ cond (high_used && not (eqb arc.high widest_high)) 2 (cond (low_used && not (eqb arc.low widest_low)) 1 0) }
 {
-    if this {
-        return !other;
-    }
-    false
-}
-
-// The mark of an arc: 2 if a sum uses its high (`upper`), else 1 if it uses its low (`lower`), else 0.
-// An end of the widest range itself is not cited.
-fn cite(low: u32, high: u32, upper: bool, lower: bool) -> u32
-    ensures { result ≡ cond (upper && not (eqb high widest_high)) 2 (cond (lower && not (eqb low widest_low)) 1 0) }
-{
-    if and_not(upper, high == Arc::WIDEST_HIGH) {
+    if high_used && arc.high != Arc::WIDEST_HIGH {
         return 2;
     }
-    if and_not(lower, low == Arc::WIDEST_LOW) {
+    if low_used && arc.low != Arc::WIDEST_LOW {
         return 1;
     }
     0
 }
 
-// Whether the node that stands at a place of the arcs is in a set.
-fn end_inside(arcs: &[u32], set: u64, place: usize) -> bool
-    requires { (place < length arcs.now) × (at arcs.now place < word_bits) }
-    ensures { result ≡ holds set (at arcs.now place) }
+// Whether an arc runs from inside a set to outside.
+fn leaves(arc: Arc, set: u64) -> bool
+    requires { (arc.from < word_bits) × (arc.to < word_bits) }
+    ensures { result ≡ (holds set arc.from && not (holds set arc.to)) }
 {
-    has(set, wide(arcs[place]))
+    has(set, arc.from as usize) && !has(set, arc.to as usize)
 }
 
-// The mark of arc j for the reason of an end of arc k: of its high end if `upper`, else of its low end.
-// The arcs that leave the set count at the one end, those that enter it at the other; k itself is left out.
-fn mark_of(arcs: &[u32], supplies: &[i32], set: u64, k: usize, upper: bool, j: usize) -> u32
-    requires plan { WellFormed (plan_of arcs.now supplies.now) }
-    requires arc { j < length arcs.now / arc_entries }
-    ensures { result ≡ end_marks (plan_of arcs.now supplies.now) k upper (holds set) j }
+// Whether an arc runs from outside a set to inside.
+fn enters(arc: Arc, set: u64) -> bool
+    requires { (arc.from < word_bits) × (arc.to < word_bits) }
+    ensures { result ≡ (not (holds set arc.from) && holds set arc.to) }
 {
-    let place = j * Arc::ENTRIES;
-    let low = arcs[place + 2];
-    let high = arcs[place + 3];
-    let from = end_inside(arcs, set, place);
-    let to = end_inside(arcs, set, place + 1);
-    let enters = and_not(to, from);
-    let leaves = and_not(and_not(from, to), j == k);
+    !has(set, arc.from as usize) && has(set, arc.to as usize)
+}
+
+// The mark of arc j for a "no": the highs of the arcs that leave the set count, and the lows of those that enter it.
+fn no_mark(network: Network, set: u64, j: usize) -> u32
+    requires plan { WellFormed (meant network) }
+    requires arc { j < length network.arcs.now / arc_entries }
+    ensures { result ≡ no_marks (meant network.entry) (holds set) j }
+{
+    let arc = network.arc(j);
+    cite(arc, leaves(arc, set), enters(arc, set))
+}
+
+// The mark of arc j for the reason of an end of arc k: of its high end if `upper`, else of its low end. The arcs that
+// leave the set count at the one end, those that enter it at the other; k itself is left out.
+fn end_mark(network: Network, set: u64, k: usize, upper: bool, j: usize) -> u32
+    requires plan { WellFormed (meant network) }
+    requires arc { j < length network.arcs.now / arc_entries }
+    ensures { result ≡ end_marks (meant network.entry) k upper (holds set) j }
+{
+    let arc = network.arc(j);
+    let other_leaves = leaves(arc, set) && j != k;
+    let enters = enters(arc, set);
     if upper {
-        return cite(low, high, enters, leaves);
+        return cite(arc, enters, other_leaves);
     }
-    cite(low, high, leaves, enters)
+    cite(arc, other_leaves, enters)
 }
 
 // Writes the marks of the first n nodes: 1 inside the set, 0 not.
@@ -72,41 +75,25 @@ pub fn mark_nodes(set: u64, n: usize, buffer: &mut [u8])
     requires { (n ≤ word_bits) × (n ≤ length buffer.old) }
     ensures { Written (λ v. only (holds set v) 1) n buffer.old buffer.new }
 {
-    let mut v = 0;
-    while v < n {
-        buffer[v] = bit(set, v) as u8;
-        v += 1;
-    }
+    write_first(buffer, n, |v| bit(set, v) as u8);
 }
 
-// Writes the mark of each arc for the reason of an end of arc k: of its high end if `upper`, else of its
-// low end. Where k is no arc, none is left out.
-pub fn mark_arcs_for(
-    arcs: &[u32],
-    supplies: &[i32],
-    set: u64,
-    k: usize,
-    upper: bool,
-    buffer: &mut [u32],
-)
-    requires plan { WellFormed (plan_of arcs.now supplies.now) }
-    requires whole { length arcs.now / arc_entries ≤ length buffer.old }
-    ensures { Written (end_marks (plan_of arcs.now supplies.now) k upper (holds set)) (length arcs.now / arc_entries) buffer.old buffer.new }
+// Writes the mark of each arc for the reason of an end of arc k: of its high end if `upper`, else of its low end.
+pub fn mark_arcs_for(network: Network, set: u64, k: usize, upper: bool, buffer: &mut [u32])
+    requires plan { WellFormed (meant network) }
+    requires whole { length network.arcs.now / arc_entries ≤ length buffer.old }
+    ensures { Written (end_marks (meant network.entry) k upper (holds set)) (length network.entry.arcs.now / arc_entries) buffer.old buffer.new }
 {
-    let count = arcs.len() / Arc::ENTRIES;
-    let mut j = 0;
-    while j < count {
-        buffer[j] = mark_of(arcs, supplies, set, k, upper, j);
-        j += 1;
-    }
+    write_first(buffer, network.size().arcs, |j| {
+        end_mark(network, set, k, upper, j)
+    });
 }
 
 // Writes the mark of each arc for a "no" by a set: 0 not cited, 1 its low, 2 its high.
-pub fn mark_arcs(arcs: &[u32], supplies: &[i32], set: u64, buffer: &mut [u32])
-    requires plan { WellFormed (plan_of arcs.now supplies.now) }
-    requires whole { length arcs.now / arc_entries ≤ length buffer.old }
-    ensures { Written (no_marks (plan_of arcs.now supplies.now) (holds set)) (length arcs.now / arc_entries) buffer.old buffer.new }
+pub fn mark_arcs(network: Network, set: u64, buffer: &mut [u32])
+    requires plan { WellFormed (meant network) }
+    requires whole { length network.arcs.now / arc_entries ≤ length buffer.old }
+    ensures { Written (no_marks (meant network.entry) (holds set)) (length network.entry.arcs.now / arc_entries) buffer.old buffer.new }
 {
-    let no_arc = arcs.len() / Arc::ENTRIES;
-    mark_arcs_for(arcs, supplies, set, no_arc, false, buffer);
+    write_first(buffer, network.size().arcs, |j| no_mark(network, set, j));
 }

@@ -1,4 +1,4 @@
--- What a plan that is accepted is told is what narrowing says of it; and the two ends of every arc make its narrowed range.
+-- The two ends of every arc make its narrowed range.
 use Prim.Native.Nat.{ℕ, ◌≤◌, ◌<◌}
 use mathlib.Core.Path.{◌≡◌}
 use mathlib.Core.Bool.{true, false}
@@ -7,14 +7,10 @@ use Rattle.rooms.specs.Room.{at}
 use Rattle.plan.specs.Plan.{Plan, WellFormed}
 use Rattle.plan.specs.Flow.{Narrowed}
 use Rattle.plan.specs.Reason.{NarrowedEnd}
-use Rattle.plan.specs.declared.Verdict.TheVariants.{Accepted}
 use Rattle.plan.proofs.Between.{every_count_occurs}
 use Rattle.stand.specs.State.{Ready}
 use Rattle.stand.proofs.Standing.{ready_flow}
-use Rattle.stand.specs.declared.Asked.{Asked}
-use Rattle.stand.specs.declared.Asked.TheVariants.{Balances, Lacks}
-use Rattle.flow.specs.Answer.{answer_to}
-use Rattle.narrow.specs.Answer.{judged, Ranges, Told, Says}
+use Rattle.narrow.specs.Answer.{Ranges}
 
 pub both_ends : {p : Plan} {room : ℕ → ℕ → ℕ} (lows highs lows' highs' : List ℕ) → WellFormed p → Ready p room
     → ((k : ℕ) → k < p.arcs → NarrowedEnd p k false (at lows' k)) → ((i : ℕ) → p.arcs ≤ i → at lows' i ≡ at lows i)
@@ -30,8 +26,3 @@ both_ends {p} lows highs lows' highs' w y low_ends lows_past high_ends highs_pas
   where
     range : (k : ℕ) → k < p.arcs → Narrowed p k (at lows' k) (at highs' k)
     range k l = record { low_end = low_ends k l; high_end = high_ends k l }
-
-pub told_says : (p : Plan) (lows highs lows' highs' : List ℕ) (asked : Asked) → judged p lows highs ≡ Accepted
-    → Told p lows highs lows' highs' asked → Says p lows highs lows' highs' (answer_to asked)
-told_says p lows highs lows' highs' Balances accepted told = (accepted, told)
-told_says p lows highs lows' highs' (Lacks value) accepted told = (accepted, told)

@@ -1,16 +1,13 @@
 -- What narrowing answers, in document 01's words, and what it leaves in the two lent buffers.
-use Rattle.std.specs.Prelude.{ℕ, ◌≤◌, ◌<◌, ◌≡◌, List, length}
+use Rattle.std.specs.Prelude.{ℕ, ◌≤◌, ◌<◌, ◌≡◌, List, length, Result, Ok, Err}
 use Rattle.rooms.specs.Room.{at}
 use Rattle.plan.specs.Plan.{Plan, Set}
-use Rattle.plan.specs.Verdict.{verdict, network_rules, lent_short}
+use Rattle.plan.specs.Verdict.{verdict, network_rules, lent_short, Verdict, Accepted}
+use Rattle.plan.specs.declared.No.TheVariants.{Short, Refused}
 use Rattle.plan.specs.Flow.{HasFlow, Occurs, Narrowed}
 use Rattle.plan.specs.Shortage.{ShortBy}
-use Rattle.plan.specs.declared.Verdict.{Verdict}
-use Rattle.plan.specs.declared.Verdict.TheVariants.{Accepted, Refused as TurnedDown}
-use Rattle.stand.specs.declared.Asked.{Asked}
-use Rattle.stand.specs.declared.Asked.TheVariants.{Balances, Lacks}
-use Rattle.flow.specs.declared.Answer.{Answer}
-use Rattle.flow.specs.declared.Answer.TheVariants.{Runs, Short, Refused}
+use Rattle.stand.specs.declared.Shortage.{Shortage}
+use Rattle.flow.specs.Answer.{Answer}
 
 -- what is said of the input: narrowing may write an entry for each arc to either buffer
 abbrev pub judged : Plan → (lows highs : List ℕ) → Verdict
@@ -25,16 +22,17 @@ pub record Ranges (p : Plan) (lows highs lows' highs' : List ℕ) : Type 0 where
   pub highs_past : (i : ℕ) → p.arcs ≤ i → at highs' i ≡ at highs i
 
 -- what a plan that is accepted is told, and how the buffers are left: where there is no flow, as they were
-abbrev pub Told : Plan → (lows highs lows' highs' : List ℕ) → Asked → Type 0
-Told p lows highs lows' highs' Balances = Ranges p lows highs lows' highs'
-Told p lows highs lows' highs' (Lacks value) = ((S : Set) × ShortBy p value S) × (lows' ≡ lows) × (highs' ≡ highs)
+abbrev pub Told : Plan → (lows highs lows' highs' : List ℕ) → Result Unit Shortage → Type 0
+Told p lows highs lows' highs' (Ok u) = Ranges p lows highs lows' highs'
+Told p lows highs lows' highs' (Err shortage) = ((S : Set) × ShortBy p shortage.value S) × (lows' ≡ lows) × (highs' ≡ highs)
 
 -- what narrowing answers of a plan, and how it leaves the buffers, for every input
 abbrev pub Says : Plan → (lows highs lows' highs' : List ℕ) → Answer → Type 0
-Says p lows highs lows' highs' Runs = (judged p lows highs ≡ Accepted) × Told p lows highs lows' highs' Balances
-Says p lows highs lows' highs' (Short value) = (judged p lows highs ≡ Accepted) × Told p lows highs lows' highs' (Lacks value)
-Says p lows highs lows' highs' (Refused n place) =
-    (judged p lows highs ≡ TurnedDown n place) × (lows' ≡ lows) × (highs' ≡ highs)
+Says p lows highs lows' highs' (Ok u) = (judged p lows highs ≡ Accepted) × Ranges p lows highs lows' highs'
+Says p lows highs lows' highs' (Err (Short value)) =
+    (judged p lows highs ≡ Accepted) × (((S : Set) × ShortBy p value S) × (lows' ≡ lows) × (highs' ≡ highs))
+Says p lows highs lows' highs' (Err (Refused refusal)) =
+    (judged p lows highs ≡ Err refusal) × (lows' ≡ lows) × (highs' ≡ highs)
 
 pub record NarrowAnswers (p : Plan) (lows highs lows' highs' : List ℕ) (answer : Answer) : Type 0 where
   pub says : Says p lows highs lows' highs' answer

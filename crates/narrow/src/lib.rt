@@ -1,5 +1,5 @@
 // Narrowing: each lane's smallest and largest count over all flows. It uses `plan` for what is meant and
-// `stand`, `one_arc` and `across` for working it out; its answers are the flow question's.
+// `stand` and `one_arc` for working it out; its answers are the flow question's.
 #![tactic(auto)]
 
 pub mod request;

@@ -1,71 +1,32 @@
--- The tests of the rules 4 to 6, one half after the other, as the code makes them; and a supply's magnitude.
+-- From what the code sees, rule after rule, to the verdict on a network.
 use Prim.Native.Nat.{ℕ, ◌≤◌, ◌<◌}
 use mathlib.Core.Path.{◌≡◌, sym, ◌∙◌}
-use mathlib.Core.Bool.{Bool, true, false, false≢true}
-use mathlib.Core.List.{◌∷◌}
-use lib.Dec.{leb, ltb, eqb, leb-suc-suc}
-use lib.IntN.{ℤ, pos, negsuc, nat_abs}
-use lib.Signed.{lt_z}
-use borrow.Author.Tests.{le-leb, lt-leb, lt-ltb, le-ltb, ltb-false, eq-eqb, ne_eqb}
-use Rattle.plan.specs.Limits.{most_nodes, most_arcs, most_supply, widest_high}
+use mathlib.Core.Bool.{Bool, true, false}
+use mathlib.Core.List.{List, [], ◌∷◌}
+use lib.Dec.{ltb, eqb}
+use lib.IntN.{pos, nat_abs}
+use borrow.Author.Tests.{ltb-false, ne_eqb}
+use Rattle.std.specs.Prelude.{Ok, Err}
+use Rattle.plan.specs.Limits.{most_nodes, most_supply}
 use Rattle.plan.specs.Plan.{Plan}
-use Rattle.plan.specs.Verdict.{Lowest, lowest, end_wrong, range_wrong, supply_wrong, verdict, whole, count_rules, limit_rules, network_rules}
-use Rattle.plan.specs.declared.Verdict.{Verdict}
-use Rattle.plan.specs.declared.Verdict.TheVariants.{Accepted, Refused}
-use Rattle.plan.proofs.Refusals.{before_refused, before_accepted, accepted_clear, neither, lowest_at, lowest_past, size_zero}
+use Rattle.plan.specs.declared.Fault.TheVariants.{ArcEnd, ArcRange, Supply, SupplySum, Buffer}
+use Rattle.plan.specs.declared.Refusal.{Refusal}
+use Rattle.plan.specs.Verdict.{Verdict, Accepted, Refused, Rule, lowest, end_wrong, range_wrong, supply_wrong, sum_wrong, verdict, whole, count_rules, limit_rules, network_rules}
+use Rattle.plan.proofs.Refusals.{before_refused, before_accepted, rule_refuses, rule_passes, accepted_clear, neither, size_zero}
 use Rattle.numbers.specs.Sums.{sumℤ}
 use native.Mathlib.Omega.{arith}
 
-module _ (p : Plan) (k : ℕ) where
-  pub from_end_wrong : p.nodes ≤ p.from k → true ≡ end_wrong p k
-  from_end_wrong h = rw (le-leb p.nodes (p.from k) h)
-
-  pub to_end_wrong : p.from k < p.nodes → leb p.nodes (p.to k) ≡ end_wrong p k
-  to_end_wrong h = rw (lt-leb p.nodes (p.from k) h)
-
-  pub range_crossed : p.high k < p.low k → true ≡ range_wrong p k
-  range_crossed h = rw (lt-ltb (p.high k) (p.low k) h)
-
-  pub range_too_high : p.low k ≤ p.high k → ltb widest_high (p.high k) ≡ range_wrong p k
-  range_too_high h = rw (le-ltb (p.high k) (p.low k) h)
-
--- a supply is beyond its limits above or below
-pub supply_above : (z : ℤ) → lt_z (pos most_supply) z ≡ true → true ≡ ltb most_supply (nat_abs z)
-supply_above (pos n) h = sym h
-supply_above (negsuc n) h = absurd (false≢true h)
-
-pub supply_below : (z : ℤ) → lt_z (pos most_supply) z ≡ false → lt_z z (negsuc 999999) ≡ ltb most_supply (nat_abs z)
-supply_below (pos n) h = sym h
-supply_below (negsuc n) h = sym (leb-suc-suc most_supply n)
-
--- ---- the rules 1 and 2
-
-module _ (p : Plan) where
-  pub no_node : p.nodes ≡ 0 → Refused 1 0 ≡ verdict (count_rules p)
-  no_node none = rw (eq-eqb p.nodes 0 none)
-
-  module _ (some : p.nodes ≡ 0 → ⊥) where
-    pub too_many_nodes : most_nodes < p.nodes → Refused 1 0 ≡ verdict (count_rules p)
-    too_many_nodes many = rw (ne_eqb p.nodes 0 some, lt-ltb most_nodes p.nodes many)
-
-    module _ (nodes : p.nodes ≤ most_nodes) where
-      pub too_many_arcs : most_arcs < p.arcs → Refused 2 0 ≡ verdict (count_rules p)
-      too_many_arcs many = rw (ne_eqb p.nodes 0 some, le-ltb most_nodes p.nodes nodes, lt-ltb most_arcs p.arcs many)
-
-      pub counts_pass : p.arcs ≤ most_arcs → Accepted ≡ verdict (count_rules p)
-      counts_pass arcs = rw (ne_eqb p.nodes 0 some, le-ltb most_nodes p.nodes nodes, le-ltb most_arcs p.arcs arcs)
-
--- ---- and 3 after them
+-- ---- 3 after the counts
 
 module _ (p : Plan) (short : Bool) {v : Verdict} (counts : v ≡ verdict (count_rules p)) where
-  pub counts_turn_down : {n i : ℕ} → v ≡ Refused n i → Refused n i ≡ verdict (network_rules p short)
-  counts_turn_down = before_refused (count_rules p) (whole 3 short ∷ limit_rules p) counts
+  pub counts_turn_down : {r : Refusal} → v ≡ Err r → Err r ≡ verdict (network_rules p short)
+  counts_turn_down = before_refused (count_rules p) (whole Buffer short ∷ limit_rules p) counts
 
   module _ (passed : v ≡ Accepted) where
-    after_counts : verdict (network_rules p short) ≡ verdict (whole 3 short ∷ limit_rules p)
-    after_counts = before_accepted (count_rules p) (whole 3 short ∷ limit_rules p) counts passed
+    after_counts : verdict (network_rules p short) ≡ verdict (whole Buffer short ∷ limit_rules p)
+    after_counts = before_accepted (count_rules p) (whole Buffer short ∷ limit_rules p) counts passed
 
-    pub short_turns_down : short ≡ true → Refused 3 0 ≡ verdict (network_rules p short)
+    pub short_turns_down : short ≡ true → Refused Buffer 0 ≡ verdict (network_rules p short)
     short_turns_down is = sym (after_counts ∙ rw is)
 
     pub limits_decide : short ≡ false → verdict (limit_rules p) ≡ verdict (network_rules p short)
@@ -75,36 +36,47 @@ module _ (p : Plan) (short : Bool) {v : Verdict} (counts : v ≡ verdict (count_
     few_nodes = ltb-false most_nodes p.nodes
         (neither (eqb p.nodes 0) (ltb most_nodes p.nodes) ((accepted_clear (count_rules p) (sym counts ∙ passed)).0 0 (omega arith))).1
 
--- ---- the rules 4 to 7, each given way to by those before it
+-- ---- the limits, each rule given way to by those before it
 
-module _ (p : Plan) {end : ℕ} (ends : Lowest (end_wrong p) p.arcs end) where
-  pub end_refused : end < p.arcs → Refused 4 end ≡ verdict (limit_rules p)
-  end_refused here = lowest_at 4 (end_wrong p) p.arcs end _ ends here
+module _ (p : Plan) where
+  abbrev ends : Rule
+  ends = record { fault = ArcEnd; places = p.arcs; concerns = end_wrong p }
 
-  module _ (no_end : p.arcs ≤ end) {range : ℕ} (ranges : Lowest (range_wrong p) p.arcs range) where
-    past_ends : (v : Verdict) → lowest 4 (end_wrong p) p.arcs v ≡ v
-    past_ends v = lowest_past 4 (end_wrong p) p.arcs end v ends no_end
+  abbrev ranges : Rule
+  ranges = record { fault = ArcRange; places = p.arcs; concerns = range_wrong p }
 
-    pub range_refused : range < p.arcs → Refused 5 range ≡ verdict (limit_rules p)
-    range_refused here = rw past_ends (lowest_at 5 (range_wrong p) p.arcs range _ ranges here)
+  abbrev supplies : Rule
+  supplies = record { fault = Supply; places = p.nodes; concerns = supply_wrong p }
 
-    module _ (no_range : p.arcs ≤ range) {supply : ℕ} (supplies : Lowest (supply_wrong p) p.nodes supply) where
-      past_ranges : (v : Verdict) → lowest 5 (range_wrong p) p.arcs v ≡ v
-      past_ranges v = lowest_past 5 (range_wrong p) p.arcs range v ranges no_range
+  abbrev sums : List Rule
+  sums = whole SupplySum (sum_wrong p) ∷ []
 
-      pub supply_refused : supply < p.nodes → Refused 6 supply ≡ verdict (limit_rules p)
-      supply_refused here = rw (past_ends, past_ranges) (lowest_at 6 (supply_wrong p) p.nodes supply _ supplies here)
+  pub end_refused : {r : Refusal} → Err r ≡ lowest ArcEnd (end_wrong p) p.arcs Accepted → Err r ≡ verdict (limit_rules p)
+  end_refused = rule_refuses ends (ranges ∷ supplies ∷ sums)
 
-      module _ (no_supply : p.nodes ≤ supply) where
-        past_supplies : (v : Verdict) → lowest 6 (supply_wrong p) p.nodes v ≡ v
-        past_supplies v = lowest_past 6 (supply_wrong p) p.nodes supply v supplies no_supply
+  module _ (e : Unit {0}) (no_end : Ok e ≡ lowest ArcEnd (end_wrong p) p.arcs Accepted) where
+    past_ends : verdict (limit_rules p) ≡ verdict (ranges ∷ supplies ∷ sums)
+    past_ends = rule_passes ends (ranges ∷ supplies ∷ sums) e no_end
+
+    pub range_refused : {r : Refusal} → Err r ≡ lowest ArcRange (range_wrong p) p.arcs Accepted → Err r ≡ verdict (limit_rules p)
+    range_refused is = rule_refuses ranges (supplies ∷ sums) is ∙ sym past_ends
+
+    module _ (r : Unit {0}) (no_range : Ok r ≡ lowest ArcRange (range_wrong p) p.arcs Accepted) where
+      past_ranges : verdict (limit_rules p) ≡ verdict (supplies ∷ sums)
+      past_ranges = past_ends ∙ rule_passes ranges (supplies ∷ sums) r no_range
+
+      pub supply_refused : {x : Refusal} → Err x ≡ lowest Supply (supply_wrong p) p.nodes Accepted → Err x ≡ verdict (limit_rules p)
+      supply_refused is = rule_refuses supplies sums is ∙ sym past_ranges
+
+      module _ (s : Unit {0}) (no_supply : Ok s ≡ lowest Supply (supply_wrong p) p.nodes Accepted) where
+        past_supplies : verdict (limit_rules p) ≡ verdict sums
+        past_supplies = past_ranges ∙ rule_passes supplies sums s no_supply
 
         pub supplies_small : (v : ℕ) → v < p.nodes → nat_abs (p.supply v) ≤ most_supply
-        supplies_small v l = omega (arith, ltb-false most_supply (nat_abs (p.supply v)) (supplies.before v (omega arith)))
+        supplies_small v l = ltb-false most_supply (nat_abs (p.supply v)) ((accepted_clear (supplies ∷ []) (sym no_supply)).0 v l)
 
         pub sum_passes : sumℤ p.nodes p.supply ≡ pos 0 → Accepted ≡ verdict (limit_rules p)
-        sum_passes zero = rw (past_ends, past_ranges, past_supplies, zero)
+        sum_passes zero = sym (past_supplies ∙ rw zero)
 
-        pub sum_refused : (sumℤ p.nodes p.supply ≡ pos 0 → ⊥) → Refused 7 0 ≡ verdict (limit_rules p)
-        sum_refused other =
-            rw (past_ends, past_ranges, past_supplies, ne_eqb (nat_abs (sumℤ p.nodes p.supply)) 0 (λ e. other (size_zero _ e)))
+        pub sum_refused : (sumℤ p.nodes p.supply ≡ pos 0 → ⊥) → Refused SupplySum 0 ≡ verdict (limit_rules p)
+        sum_refused other = sym (past_supplies ∙ rw (ne_eqb (nat_abs (sumℤ p.nodes p.supply)) 0 (λ e. other (size_zero _ e))))

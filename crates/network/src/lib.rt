@@ -5,89 +5,37 @@
 ghost use Rattle.std.specs.Prelude.{◌≡◌, ◌||◌, ℕ, ◌/◌, ◌≤◌, ◌<◌, ltb, pos, nat_abs, length, get_or};
 ghost use Rattle.numbers.specs.Sums.{sumℤ};
 ghost use Rattle.plan.specs.Limits.{most_nodes, most_supply, arc_entries};
-ghost use Rattle.plan.specs.Plan.{Plan as Meant, plan_of};
-ghost use Rattle.plan.specs.Verdict.{Lowest, end_wrong, range_wrong, supply_wrong, verdict, count_rules, limit_rules, network_rules, asking_rules};
+ghost use Rattle.plan.specs.Plan.{Plan as Meant, meant};
+ghost use Rattle.plan.specs.Verdict.{end_wrong, range_wrong, supply_wrong, verdict, count_rules, limit_rules, network_rules, asking_rules};
 
-use plan::{Arc, Plan, Verdict, wide};
+use plan::{Arc, Fault, Network, Plan, Refusal, Verdict, refuse};
 
 // An end of arc k is not below the node count.
-fn end_wrong(arcs: &[u32], supplies: &[i32], k: usize) -> bool
-    requires { k < length arcs.now / arc_entries }
-    ensures { result ≡ end_wrong (plan_of arcs.now supplies.now) k }
+fn end_wrong(network: Network, k: usize) -> bool
+    requires { k < length network.arcs.now / arc_entries }
+    ensures { result ≡ end_wrong (meant network.entry) k }
 {
-    let nodes = supplies.len();
-    if nodes <= wide(arcs[k * Arc::ENTRIES]) {
-        return true;
-    }
-    nodes <= wide(arcs[k * Arc::ENTRIES + 1])
+    let nodes = network.supplies.len();
+    let arc = network.arc(k);
+    nodes <= arc.from as usize || nodes <= arc.to as usize
 }
 
 // The low of arc k is above its high, or its high is above the widest.
-fn range_wrong(arcs: &[u32], supplies: &[i32], k: usize) -> bool
-    requires { k < length arcs.now / arc_entries }
-    ensures { result ≡ range_wrong (plan_of arcs.now supplies.now) k }
+fn range_wrong(network: Network, k: usize) -> bool
+    requires { k < length network.arcs.now / arc_entries }
+    ensures { result ≡ range_wrong (meant network.entry) k }
 {
-    let high = arcs[k * Arc::ENTRIES + 3];
-    if high < arcs[k * Arc::ENTRIES + 2] {
-        return true;
-    }
-    Arc::WIDEST_HIGH < high
+    let arc = network.arc(k);
+    arc.high < arc.low || Arc::WIDEST_HIGH < arc.high
 }
 
 // The supply of node v is beyond its limits.
-fn supply_wrong(arcs: &[u32], supplies: &[i32], v: usize) -> bool
-    requires { v < length supplies.now }
-    ensures { result ≡ supply_wrong (plan_of arcs.now supplies.now) v }
+fn supply_wrong(network: Network, v: usize) -> bool
+    requires { v < length network.supplies.now }
+    ensures { result ≡ supply_wrong (meant network.entry) v }
 {
-    let supply = supplies[v];
-    if Plan::MOST_SUPPLY < supply {
-        return true;
-    }
-    supply < -Plan::MOST_SUPPLY
-}
-
-// The lowest arc with a wrong end, or the arc count.
-fn lowest_wrong_end(arcs: &[u32], supplies: &[i32]) -> usize
-    ensures { Lowest (end_wrong (plan_of arcs.now supplies.now)) (length arcs.now / arc_entries) result }
-{
-    let count = arcs.len() / Arc::ENTRIES;
-    let mut k = 0;
-    while k < count {
-        if end_wrong(arcs, supplies, k) {
-            return k;
-        }
-        k += 1;
-    }
-    k
-}
-
-// The lowest arc with a wrong range, or the arc count.
-fn lowest_wrong_range(arcs: &[u32], supplies: &[i32]) -> usize
-    ensures { Lowest (range_wrong (plan_of arcs.now supplies.now)) (length arcs.now / arc_entries) result }
-{
-    let count = arcs.len() / Arc::ENTRIES;
-    let mut k = 0;
-    while k < count {
-        if range_wrong(arcs, supplies, k) {
-            return k;
-        }
-        k += 1;
-    }
-    k
-}
-
-// The lowest node with a wrong supply, or the node count.
-fn lowest_wrong_supply(arcs: &[u32], supplies: &[i32]) -> usize
-    ensures { Lowest (supply_wrong (plan_of arcs.now supplies.now)) (length supplies.now) result }
-{
-    let mut v = 0;
-    while v < supplies.len() {
-        if supply_wrong(arcs, supplies, v) {
-            return v;
-        }
-        v += 1;
-    }
-    v
+    let supply = network.supplies[v];
+    Plan::MOST_SUPPLY < supply || supply < -Plan::MOST_SUPPLY
 }
 
 // The sum of supplies that are within their limits, of a plan that is not too large.
@@ -96,90 +44,68 @@ fn sum_of(supplies: &[i32]) -> i64
     requires small { (v : ℕ) → v < length supplies.now → nat_abs (get_or supplies.now v (pos 0)) ≤ most_supply }
     ensures { result ≡ sumℤ (length supplies.now) (λ v. get_or supplies.now v (pos 0)) }
 {
-    let mut sum: i64 = 0;
-    let mut v = 0;
-    while v < supplies.len() {
-        sum += supplies[v] as i64;
-        v += 1;
+    let mut sum = 0;
+    for supply in supplies {
+        sum += i64::from(*supply);
     }
     sum
 }
 
 // The verdict on the arcs and supplies of a network that is not too large, by the numbers 4 to 7.
-pub fn check_limits(arcs: &[u32], supplies: &[i32]) -> Verdict
-    requires { length supplies.now ≤ most_nodes }
-    ensures { result ≡ verdict (limit_rules (plan_of arcs.now supplies.now)) }
+pub fn check_limits(network: Network) -> Verdict
+    requires { length network.supplies.now ≤ most_nodes }
+    ensures { result ≡ verdict (limit_rules (meant network.entry)) }
 {
-    let count = arcs.len() / Arc::ENTRIES;
-    let end = lowest_wrong_end(arcs, supplies);
-    if end < count {
-        return Verdict::Refused(4, end);
+    let size = network.size();
+    refuse(Fault::ArcEnd, size.arcs, |k| end_wrong(network, k))?;
+    refuse(Fault::ArcRange, size.arcs, |k| range_wrong(network, k))?;
+    refuse(Fault::Supply, size.nodes, |v| supply_wrong(network, v))?;
+    if sum_of(network.supplies) != 0 {
+        return Err(Refusal::whole(Fault::SupplySum));
     }
-    let range = lowest_wrong_range(arcs, supplies);
-    if range < count {
-        return Verdict::Refused(5, range);
-    }
-    let supply = lowest_wrong_supply(arcs, supplies);
-    if supply < supplies.len() {
-        return Verdict::Refused(6, supply);
-    }
-    if sum_of(supplies) == 0 {
-        Verdict::Accepted
-    } else {
-        Verdict::Refused(7, 0)
-    }
+    Ok(())
 }
 
 // The verdict by the numbers 1 and 2 on a plan of so many nodes and arcs.
 pub fn check_counts(nodes: usize, arcs: usize) -> Verdict
     ensures { (p : Meant) → p.nodes ≡ nodes → p.arcs ≡ arcs → result ≡ verdict (count_rules p) }
 {
-    if nodes == 0 {
-        return Verdict::Refused(1, 0);
-    }
-    if Plan::MOST_NODES < nodes {
-        return Verdict::Refused(1, 0);
+    if nodes == 0 || Plan::MOST_NODES < nodes {
+        return Err(Refusal::whole(Fault::Nodes));
     }
     if Plan::MOST_ARCS < arcs {
-        return Verdict::Refused(2, 0);
+        return Err(Refusal::whole(Fault::Arcs));
     }
-    Verdict::Accepted
+    Ok(())
 }
 
 // The verdict on a network, by the numbers 1 to 7 in their order; `short` says that a lent buffer is
 // too short for what the request may write.
-pub fn check(arcs: &[u32], supplies: &[i32], short: bool) -> Verdict
-    ensures { result ≡ verdict (network_rules (plan_of arcs.now supplies.now) short) }
+pub fn check(network: Network, short: bool) -> Verdict
+    ensures { result ≡ verdict (network_rules (meant network.entry) short) }
 {
-    let plan = Plan::of(arcs, supplies);
-    if let Verdict::Refused(number, index) = check_counts(plan.nodes, plan.arcs) {
-        return Verdict::Refused(number, index);
-    }
+    let size = network.size();
+    check_counts(size.nodes, size.arcs)?;
     if short {
-        return Verdict::Refused(3, 0);
+        return Err(Refusal::whole(Fault::Buffer));
     }
-    check_limits(arcs, supplies)
+    check_limits(network)
 }
 
 // Whether one buffer has less than m entries, or another less than n.
 pub fn too_short(first: usize, m: usize, second: usize, n: usize) -> bool
     ensures { result ≡ (ltb first m || ltb second n) }
 {
-    if first < m {
-        return true;
-    }
-    second < n
+    first < m || second < n
 }
 
 // The check of a network, and then 8 where what is asked about is missing.
-pub fn check_asked(arcs: &[u32], supplies: &[i32], short: bool, missing: bool) -> Verdict
-    ensures { result ≡ verdict (asking_rules (plan_of arcs.now supplies.now) short missing) }
+pub fn check_asked(network: Network, short: bool, missing: bool) -> Verdict
+    ensures { result ≡ verdict (asking_rules (meant network.entry) short missing) }
 {
-    if let Verdict::Refused(number, index) = check(arcs, supplies, short) {
-        return Verdict::Refused(number, index);
-    }
+    check(network, short)?;
     if missing {
-        return Verdict::Refused(8, 0);
+        return Err(Refusal::whole(Fault::Missing));
     }
-    Verdict::Accepted
+    Ok(())
 }

@@ -1,5 +1,5 @@
 -- One arc of a plan that stands ready, said in the numbers that the code has: n nodes, the arc from a to b, its range low..high.
-use Prim.Native.Nat.{ℕ, ◌+◌, ◌-◌, ◌≤◌, ◌<◌}
+use Prim.Native.Nat.{ℕ, ◌+◌, ◌-◌, ◌≤◌, ◌<◌, min}
 use mathlib.Core.Path.{◌≡◌, refl, sym, subst, ◌∙◌}
 use mathlib.Core.Bool.{Bool, true, false, cond, true≢false}
 use mathlib.Core.List.{List}
@@ -16,7 +16,7 @@ use Rattle.plan.specs.Reason.{NarrowedEnd, EndReason}
 use Rattle.plan.proofs.Narrowing.{loop_smallest, loop_largest}
 use Rattle.stand.specs.State.{Ready}
 use Rattle.stand.proofs.Standing.{ready_flow, still_ready, free_end, free_reason, seen_still}
-use Rattle.one_arc.specs.Standing.{Standing, Possible, lacking}
+use Rattle.one_arc.specs.Standing.{Standing, Possible}
 use Rattle.one_arc.proofs.Holding.{width_in_pair, can_give, held_ready, loop_held_ready}
 
 -- ---- what of a width is free, by the direct room
@@ -24,7 +24,7 @@ use Rattle.one_arc.proofs.Holding.{width_in_pair, can_give, held_ready, loop_hel
 module _ {n : ℕ} {room : ℕ → ℕ → ℕ} {a b width : ℕ} {S : ℕ → Bool} (la : a < n) (lb : b < n) where
   -- the code's number: all of a self-loop's width, else at most the direct room
   module _ {free : ℕ} (loop : b ≡ a → free ≡ width)
-      (fits : (b ≡ a → ⊥) → (free ≤ width) × (free ≤ room a b) × (free < width → free ≡ room a b)) where
+      (direct : (b ≡ a → ⊥) → free ≡ min width (room a b)) where
     pub there_whole : width ≤ free → Free n room a b width free S
     there_whole all = by_cases (ℕ_discrete b a)
         (λ e. rw (loop e) (record {
@@ -33,12 +33,12 @@ module _ {n : ℕ} {room : ℕ → ℕ → ℕ} {a b width : ℕ} {S : ℕ → B
           tight = λ less. absurd (omega arith);
         }))
         (λ ne.
-        let same : free ≡ width = omega (arith, (fits ne).0) in
-        rw same (whole_free la lb (omega (arith, (fits ne).1))))
+        let same : free ≡ width = omega (arith, direct ne) in
+        rw same (whole_free la lb (omega (arith, direct ne))))
 
     pub there_stuck : free < width → Tight n room a b (room a b) S → Free n room a b width free S
     there_stuck less t =
-        let is : free ≡ room a b = (fits (λ e. omega (arith, loop e))).2 less in
+        let is : free ≡ room a b = omega (arith, direct (λ e. omega (arith, loop e))) in
         rw is (stuck_free la lb (omega arith) t)
 
 -- where all of a range is free, its end is its own
@@ -119,11 +119,6 @@ module _ {p : Plan} {k n a b low high : ℕ} (rooms : List ℕ) (st : Standing p
   pub facing_ready : (rooms' : List ℕ) (upper : Bool) → Still n (seen rooms upper) (seen rooms' upper) → Ready p (seen rooms' false)
   facing_ready rooms' upper still = still_ready st.well_formed st.ready (rw st.nodes_are (seen_still n rooms rooms' upper still))
 
-  -- where its room is wider, it lacks less
-  pub facing_less : (rooms' : List ℕ) (upper : Bool) → seen rooms upper a b < high - low → seen rooms upper a b < seen rooms' upper a b
-      → lacking p k upper rooms' < lacking p k upper rooms
-  facing_less rooms' upper short wider = rw (st.from_is, st.to_is, st.low_is, st.high_is) (omega arith)
-
   module _ (upper : Bool) {free : ℕ} {S : ℕ → Bool} (m : Free n (seen rooms upper) a b (high - low) free S) where
     own : Free p.nodes (seen rooms upper) (p.from k) (p.to k) (p.high k - p.low k) free S
     own = rw (st.nodes_are, st.from_is, st.to_is, st.low_is, st.high_is) m
@@ -143,12 +138,6 @@ module _ {p : Plan} {k n a b low high : ℕ} (rooms : List ℕ) (st : Standing p
 -- ---- held at a count
 
 module _ {p : Plan} {k n a b low high count : ℕ} {room : ℕ → ℕ → ℕ} (st : Standing p k n a b low high room) (c : Possible p k count) where
-  pub standing_least : low ≤ count
-  standing_least = omega (arith, c.least, st.low_is)
-
-  pub standing_most : count ≤ high
-  standing_most = omega (arith, c.most, st.high_is)
-
   pub standing_can_give : (b ≡ a → ⊥) → CanGive n room a b (high - count) (count - low)
   standing_can_give ne = rw (st.nodes_are, st.from_is, st.to_is, st.low_is, st.high_is) at
       (can_give p k st.arc count st.well_formed st.ready c (other st ne))

@@ -3,6 +3,7 @@
 ghost use Rattle.std.specs.Prelude.{◌≡◌, cond, false, ℕ, ◌+◌, ◌-◌, ◌≤◌};
 ghost use Rattle.rooms.specs.Room.{seen};
 ghost use Rattle.ways.specs.Ways.{Desk};
+ghost use Rattle.ways.specs.Lent.{SameLent};
 ghost use Rattle.plan.specs.Plan.{Plan};
 ghost use Rattle.plan.specs.Flow.{held};
 ghost use Rattle.plan.specs.Reason.{NarrowedEnd};
@@ -11,6 +12,7 @@ ghost use Rattle.one_arc.specs.Standing.{Standing, Possible};
 
 use across::hold::hold;
 use across::round::measure;
+use plan::Arc;
 
 // The one of two numbers, or with `upper` the other.
 pub fn either(upper: bool, low: u32, high: u32) -> u32
@@ -30,47 +32,35 @@ pub fn end_at(upper: bool, low: u32, high: u32, free: u32) -> u32
     either(upper, high - free, low + free)
 }
 
-// The smallest count over all flows of the arc from a to b, or with `upper` the largest.
-pub fn end_of(
-    rooms: &mut [u32],
-    ways: &mut [u64],
-    upper: bool,
-    n: usize,
-    a: usize,
-    b: usize,
-    low: u32,
-    high: u32,
-) -> u32
-    requires desk { Desk n rooms.old ways.old }
-    requires stands { (p : Plan) × ((k : ℕ) × Standing p k n a b low high (seen rooms.old false)) }
-    ensures desk { Desk n rooms.new ways.new }
-    ensures end { (p : Plan) (k : ℕ) → Standing p k n a b low high (seen rooms.old false) → NarrowedEnd p k upper result × Ready p (seen rooms.new false) }
+// The smallest count of an arc over all flows, or with `upper` the largest.
+pub fn end_of(desk: &mut ways::Desk, upper: bool, n: usize, arc: Arc) -> u32
+    requires desk { Desk n desk.old.rooms.now desk.old.ways.now }
+    requires stands { (p : Plan) × ((k : ℕ) × Standing p k n arc.from arc.to arc.low arc.high (seen desk.old.rooms.now false)) }
+    ensures desk { Desk n desk.new.rooms.now desk.new.ways.now }
+    ensures end { (p : Plan) (k : ℕ) → Standing p k n arc.from arc.to arc.low arc.high (seen desk.old.rooms.now false) → NarrowedEnd p k upper result × Ready p (seen desk.new.rooms.now false) }
+    ensures lent { SameLent desk.old desk.new }
 {
+    let a = arc.from as usize;
+    let b = arc.to as usize;
     if a == b {
-        return either(upper, low, high);
+        return either(upper, arc.low, arc.high);
     }
-    let passage = measure(rooms, ways, upper, n, a, b, high - low);
-    end_at(upper, low, high, passage.free)
+    let passage = measure(desk, upper, n, a, b, arc.high - arc.low);
+    end_at(upper, arc.low, arc.high, passage.free)
 }
 
-// Holds the arc from a to b at a count that some flow has on it.
-pub fn hold_at(
-    rooms: &mut [u32],
-    ways: &mut [u64],
-    n: usize,
-    a: usize,
-    b: usize,
-    low: u32,
-    high: u32,
-    count: u32,
-)
-    requires desk { Desk n rooms.old ways.old }
-    requires stands { (p : Plan) × ((k : ℕ) × (Standing p k n a b low high (seen rooms.old false) × Possible p k count)) }
-    ensures desk { Desk n rooms.new ways.new }
-    ensures held { (p : Plan) (k : ℕ) → Standing p k n a b low high (seen rooms.old false) → Possible p k count → Ready (held p k count) (seen rooms.new false) }
+// Holds an arc at a count that some flow has on it.
+pub fn hold_at(desk: &mut ways::Desk, n: usize, arc: Arc, count: u32)
+    requires desk { Desk n desk.old.rooms.now desk.old.ways.now }
+    requires stands { (p : Plan) × ((k : ℕ) × (Standing p k n arc.from arc.to arc.low arc.high (seen desk.old.rooms.now false) × Possible p k count)) }
+    ensures desk { Desk n desk.new.rooms.now desk.new.ways.now }
+    ensures held { (p : Plan) (k : ℕ) → Standing p k n arc.from arc.to arc.low arc.high (seen desk.old.rooms.now false) → Possible p k count → Ready (held p k count) (seen desk.new.rooms.now false) }
+    ensures lent { SameLent desk.old desk.new }
 {
+    let a = arc.from as usize;
+    let b = arc.to as usize;
     if a == b {
         return;
     }
-    hold(rooms, ways, n, a, b, high - count, count - low);
+    hold(desk, n, a, b, arc.high - count, count - arc.low);
 }

@@ -11,9 +11,9 @@ use Rattle.plan.specs.Flow.{total, Flow, FirstFlow, HasFlow, Occurs, Smallest, L
 use Rattle.plan.specs.Shortage.{leaves, enters, supplies, shortfall, ShortBy}
 use Rattle.plan.specs.Reason.{no_marks}
 use Rattle.plan.specs.Keeping.{SamePlan}
-use Rattle.plan.specs.Verdict.{lowest, verdict, count_rules, limit_rules, end_wrong, range_wrong, supply_wrong, sum_wrong}
-use Rattle.plan.specs.declared.Verdict.{Verdict}
-use Rattle.plan.specs.declared.Verdict.TheVariants.{Accepted, Refused}
+use Rattle.plan.specs.declared.Fault.{Fault}
+use Rattle.plan.specs.declared.Fault.TheVariants.{ArcEnd, ArcRange, Supply, SupplySum}
+use Rattle.plan.specs.Verdict.{lowest, verdict, count_rules, limit_rules, end_wrong, range_wrong, supply_wrong, sum_wrong, Verdict, Accepted, Refused}
 use Rattle.plan.proofs.Demand3.{flow_of_the_wider}
 
 pub alike_back : {p q : Plan} → SamePlan p q → SamePlan q p
@@ -117,30 +117,30 @@ alike_well_formed {p} {q} a w = record {
 }
 
 -- a rule that concerns the same places, before the same verdict
-lowest_same : (number : ℕ) (f g : ℕ → Bool) (n : ℕ) {u v : Verdict} → ((i : ℕ) → i < n → f i ≡ g i) → u ≡ v
-    → lowest number f n u ≡ lowest number g n v
-lowest_same number f g zero same e = e
-lowest_same number f g (suc n) {u} {v} same e =
-    lowest_same number f g n (λ i l. same i (omega arith)) (rw (same n (omega arith), e))
+lowest_same : (fault : Fault) (f g : ℕ → Bool) (n : ℕ) {u v : Verdict} → ((i : ℕ) → i < n → f i ≡ g i) → u ≡ v
+    → lowest fault f n u ≡ lowest fault g n v
+lowest_same fault f g zero same e = e
+lowest_same fault f g (suc n) {u} {v} same e =
+    lowest_same fault f g n (λ i l. same i (omega arith)) (rw (same n (omega arith), e))
 
 pub counts_alike : {p q : Plan} → SamePlan p q → verdict (count_rules p) ≡ verdict (count_rules q)
 counts_alike a = rw (a.network.nodes, a.network.arcs)
 
 pub limits_alike : {p q : Plan} → SamePlan p q → verdict (limit_rules p) ≡ verdict (limit_rules q)
 limits_alike {p} {q} a =
-    lowest_same 4 (end_wrong p) (end_wrong q) p.arcs (λ k l. rw (a.network.nodes, a.network.from k l, a.network.to k l))
-    (lowest_same 5 (range_wrong p) (range_wrong q) p.arcs (λ k l. rw (a.low k l, a.high k l))
-    (lowest_same 6 (supply_wrong p) (supply_wrong q) p.nodes (λ v l. rw (a.network.supply v l))
+    lowest_same ArcEnd (end_wrong p) (end_wrong q) p.arcs (λ k l. rw (a.network.nodes, a.network.from k l, a.network.to k l))
+    (lowest_same ArcRange (range_wrong p) (range_wrong q) p.arcs (λ k l. rw (a.low k l, a.high k l))
+    (lowest_same Supply (supply_wrong p) (supply_wrong q) p.nodes (λ v l. rw (a.network.supply v l))
     (rw (alike_sum a))
-    ∙ ap (λ n. lowest 6 (supply_wrong q) n (after_supplies q)) a.network.nodes)
-    ∙ ap (λ n. lowest 5 (range_wrong q) n (after_ranges q)) a.network.arcs)
-    ∙ ap (λ n. lowest 4 (end_wrong q) n (after_ends q)) a.network.arcs
+    ∙ ap (λ n. lowest Supply (supply_wrong q) n (after_supplies q)) a.network.nodes)
+    ∙ ap (λ n. lowest ArcRange (range_wrong q) n (after_ranges q)) a.network.arcs)
+    ∙ ap (λ n. lowest ArcEnd (end_wrong q) n (after_ends q)) a.network.arcs
   where
     after_supplies : Plan → Verdict
-    after_supplies r = cond (sum_wrong r) (Refused 7 0) Accepted
+    after_supplies r = cond (sum_wrong r) (Refused SupplySum 0) Accepted
 
     after_ranges : Plan → Verdict
-    after_ranges r = lowest 6 (supply_wrong r) r.nodes (after_supplies r)
+    after_ranges r = lowest Supply (supply_wrong r) r.nodes (after_supplies r)
 
     after_ends : Plan → Verdict
-    after_ends r = lowest 5 (range_wrong r) r.arcs (after_ranges r)
+    after_ends r = lowest ArcRange (range_wrong r) r.arcs (after_ranges r)

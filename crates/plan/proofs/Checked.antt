@@ -10,9 +10,8 @@ use native.Mathlib.Omega.{arith}
 use borrow.Author.Tests.{ltb-false, le-ltb}
 use Rattle.plan.specs.Limits.{arc_entries}
 use Rattle.plan.specs.Plan.{Plan, WellFormed}
-use Rattle.plan.specs.Verdict.{verdict, network_rules, asking_rules, lent_short, lists_short}
-use Rattle.plan.specs.declared.Verdict.{Verdict}
-use Rattle.plan.specs.declared.Verdict.TheVariants.{Accepted}
+use Rattle.plan.specs.declared.Fault.TheVariants.{Missing}
+use Rattle.plan.specs.Verdict.{verdict, network_rules, asking_rules, lent_short, lists_short, Verdict, Accepted}
 use Rattle.plan.proofs.Refusals.{accepted_well_formed, accepted_buffers_fit, well_formed_accepted, last_passes, neither}
 
 -- two lent buffers, of which m and n entries are asked, and which the check was told of
@@ -49,7 +48,7 @@ module _ (p : Plan) (w : WellFormed p) {short : Bool} (long : short ≡ false) w
   well_formed_judged = rw long (well_formed_accepted p w)
 
   pub well_formed_asked : {missing : Bool} → missing ≡ false → verdict (asking_rules p short missing) ≡ Accepted
-  well_formed_asked {missing} there = last_passes (network_rules p short) 8 missing well_formed_judged there
+  well_formed_asked {missing} there = last_passes (network_rules p short) Missing missing well_formed_judged there
 
 pub both_long : (first second : List ℕ) {m n : ℕ} → m ≤ length first → n ≤ length second → lent_short first m second n ≡ false
 both_long first second {m} {n} first_long second_long = rw (le-ltb (length first) m first_long, le-ltb (length second) n second_long)

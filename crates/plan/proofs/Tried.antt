@@ -11,12 +11,11 @@ use mathlib.Core.Option.{Option, none, some, or_else, map, bind as ◌>>=◌}
 use native.Mathlib.Omega.{arith}
 use native.Mathlib.Decide.{ℕ_discrete, dec_le, dec_lt, map_dec}
 use lib.IntN.{ℤ, pos, ◌-ℤ◌}
+use Rattle.std.specs.Prelude.{Ok, Err}
 use Rattle.numbers.proofs.Parts.{whole, equalℤ, at_mostℤ}
 use Rattle.numbers.proofs.Sums.{last_or_before, put_cases}
 use Rattle.plan.specs.Plan.{Plan, Set, WellFormed}
-use Rattle.plan.specs.Verdict.{verdict, network_rules}
-use Rattle.plan.specs.declared.Verdict.{Verdict}
-use Rattle.plan.specs.declared.Verdict.TheVariants.{Accepted, Refused}
+use Rattle.plan.specs.Verdict.{verdict, network_rules, Verdict, Accepted}
 use Rattle.plan.specs.Flow.{out, into, Flow, FirstFlow, Occurs, Smallest, Largest, held}
 use Rattle.plan.specs.Shortage.{shortfall, Inside, Shortage}
 use Rattle.plan.specs.Reason.{Separates, forces, allows, ReasonSet, LowReason, HighReason}
@@ -59,8 +58,8 @@ separates p k S = map_dec
 
 -- the verdict accepts, so the plan is well-formed
 abbrev pub accepts? : (v : Verdict) → Option (v ≡ Accepted)
-accepts? Accepted = some refl
-accepts? (Refused number index) = none
+accepts? (Ok u) = some refl
+accepts? (Err refusal) = none
 
 abbrev pub well_formed? : (p : Plan) → Option (WellFormed p)
 well_formed? p = map (accepted_well_formed p false) (accepts? (verdict (network_rules p false)))

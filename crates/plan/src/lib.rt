@@ -2,8 +2,11 @@
 // table of worked plans. It uses `numbers`.
 #![tactic(auto)]
 
-ghost use Rattle.std.specs.Prelude.{◌≡◌, ◌/◌, pos, length};
+ghost use Rattle.std.specs.Prelude.{◌≡◌, Bool, ℕ, ◌/◌, ◌<◌, pos, length};
 ghost use Rattle.plan.specs.Limits.{most_nodes, most_arcs, most_supply, widest_low, widest_high, arc_entries};
+ghost use Rattle.plan.specs.Plan.{arc_in};
+ghost use Rattle.plan.specs.Verdict.{number_of, lowest, Accepted};
+ghost use Rattle.plan.specs.declared.No.TheVariants.{Refused};
 
 // How large a plan is: its stations and its lanes.
 #[derive(Clone, Copy)]
@@ -30,7 +33,8 @@ impl Plan {
     }
 }
 
-// A lane from one station to another, and how few and how many it takes.
+// A lane from one station to another, and how few and how many it takes: as C lends it, four numbers side by side.
+#[repr(C)]
 #[derive(Clone, Copy)]
 pub struct Arc {
     pub from: u32,
@@ -64,20 +68,125 @@ impl Arc {
     {
         Arc::new(from, to, Arc::WIDEST_LOW, Arc::WIDEST_HIGH)
     }
+
+    // Arc k of a flat list.
+    pub fn at(arcs: &[u32], k: usize) -> Arc
+        requires { k < length arcs.now / arc_entries }
+        ensures { result ≡ arc_in arcs.now k }
+    {
+        let first = k * Arc::ENTRIES;
+        Arc::new(
+            arcs[first],
+            arcs[first + 1],
+            arcs[first + 2],
+            arcs[first + 3],
+        )
+    }
 }
 
-// What is said of an input: that it is accepted, or a number of document 01 with the lowest place.
+// A network as it is lent: its arcs, so many numbers each, and its supplies.
 #[derive(Clone, Copy)]
-pub enum Verdict {
-    Accepted,
-    Refused(u32, usize),
+pub struct Network<'a> {
+    pub arcs: &'a [u32],
+    pub supplies: &'a [i32],
 }
 
-// A number of the caller's that is an index: 32 bits fit in a word.
-pub fn wide(x: u32) -> usize
-    ensures { result ≡ x }
+impl Network<'_> {
+    // How large it is, in whole entries.
+    pub fn size(self) -> Plan
+        ensures { (result.nodes ≡ length self.entry.supplies.now) × (result.arcs ≡ length self.entry.arcs.now / arc_entries) }
+    {
+        Plan::of(self.arcs, self.supplies)
+    }
+
+    pub fn arc(self, k: usize) -> Arc
+        requires { k < length self.arcs.now / arc_entries }
+        ensures { result ≡ arc_in self.entry.arcs.now k }
+    {
+        Arc::at(self.arcs, k)
+    }
+}
+
+// What an input is turned down for, by document 01's numbers; the header has them under these names.
+#[derive(Clone, Copy, PartialEq, Eq)]
+pub enum Fault {
+    Nodes = 1,
+    Arcs = 2,
+    Buffer = 3,
+    ArcEnd = 4,
+    ArcRange = 5,
+    Supply = 6,
+    SupplySum = 7,
+    Missing = 8,
+    FileLength = 11,
+    FileCheck = 12,
+    FileLabel = 13,
+    FileContent = 14,
+    CountNodes = 15,
+    CountDomain = 16,
+    CountArcs = 17,
+    CountRange = 18,
+}
+
+impl Fault {
+    pub fn number(self) -> u32
+        ensures { result ≡ number_of self }
+    {
+        self as u32
+    }
+}
+
+// Why an input is turned down, with the lowest place that is concerned.
+#[derive(Clone, Copy, PartialEq, Eq)]
+pub struct Refusal {
+    pub fault: Fault,
+    pub place: usize,
+}
+
+impl Refusal {
+    pub fn at(fault: Fault, place: usize) -> Refusal
+        ensures { result ≡ record { fault = fault; place = place } }
+    {
+        Refusal { fault, place }
+    }
+
+    // What concerns the whole input has place 0.
+    pub fn whole(fault: Fault) -> Refusal
+        ensures { result ≡ record { fault = fault; place = 0 } }
+    {
+        Refusal::at(fault, 0)
+    }
+}
+
+// What is said of an input: that it is accepted, or why not.
+pub type Verdict = Result<(), Refusal>;
+
+// Refuses for one fault: the lowest of the first places that it concerns is told.
+pub fn refuse<F: Fn(usize) -> bool>(fault: Fault, places: usize, concerns: F) -> Verdict
+    requires { (i : ℕ) → i < places → F.pre concerns i }
+    ensures { (test : ℕ → Bool) → ((i : ℕ) (told : Bool) → i < places → F.post concerns i told → told ≡ test i) → result ≡ lowest fault test places Accepted }
 {
-    x as usize
+    for i in 0..places {
+        if concerns(i) {
+            return Err(Refusal::at(fault, i));
+        }
+    }
+    Ok(())
+}
+
+// Why a request has nothing to give: there is no flow, and the greatest shortfall is so much; or the input is turned down.
+#[derive(Clone, Copy, PartialEq, Eq)]
+pub enum No {
+    Short(i64),
+    Refused(Refusal),
+}
+
+impl From<Refusal> for No {
+    ghost from_gives = { λ refusal no. no ≡ Refused refusal };
+
+    fn from(refusal: Refusal) -> No {
+        No::Refused(refusal)
+    }
 }
 
 // It does nothing: its contract says that the code's limits are those of the definitions.

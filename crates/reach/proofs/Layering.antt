@@ -1,22 +1,23 @@
 -- The layers of a search, one after the other.
-use Prim.Native.Nat.{ℕ, zero, suc, ◌+◌, ◌^◌, ◌≤◌, ◌<◌}
+use Prim.Native.Nat.{ℕ, zero, suc, ◌+◌, ◌-◌, ◌^◌, ◌≤◌, ◌<◌}
 use mathlib.Core.Path.{◌≡◌, refl, sym, ap, ◌∙◌, subst}
 use mathlib.Core.Bool.{Bool, true, false, not, ◌&&◌, ◌||◌, true≢false, false≢true}
 use mathlib.Core.List.{List}
 use mathlib.Core.Logic.{◌⊎◌, inl, inr, ⊎_elim, by_cases}
 use native.Mathlib.Omega.{arith}
 use native.Mathlib.Decide.{ℕ_discrete, dec_lt}
-use lib.Dec.{eqb}
+use lib.Bits.{bit_and}
+use lib.Count.{count_trailing_zeros}
 use lib.ListN.{length, set}
 use lib.Seq.{get_or-set_same, get_or-set_other}
-use borrow.Author.Tests.{eq-eqb, ne_eqb, not-true}
+use borrow.Author.Tests.{ne_eqb, not-true}
 use Rattle.numbers.specs.Sums.{sum, only, put}
 use Rattle.numbers.proofs.Truth.{both_true, true_both, either_true, true_left, true_right, true_or_false, true_not}
 use Rattle.numbers.proofs.Sums.{sum_le, sum_change, put_there, put_cases, put_elsewhere, same_truth}
 use Rattle.rooms.specs.Room.{side, at}
 use Rattle.words.specs.Word.{holds, SplitOf}
-use Rattle.words.proofs.Bits.{zero_holds, some_holds, past_holds, same_word}
-use Rattle.reach.specs.Search.{Open, Widened, Reached, Layers, Sought, Path}
+use Rattle.words.proofs.Bits.{zero_holds, some_holds, past_holds, same_word, first_taken}
+use Rattle.reach.specs.Search.{Open, Widened, Reached, Layers, Layered, Met, Missed, Path}
 
 -- ---- where steps lead
 
@@ -27,13 +28,6 @@ pub record Widening (way : ℕ → ℕ → Bool) (u v front rest next : ℕ) : T
   pub passed : (x : ℕ) → holds front x ≡ true → (holds rest x ≡ true) ⊎ ((y : ℕ) → Open way u v x y → holds next y ≡ true)
 
 module _ {way : ℕ → ℕ → Bool} {u v : ℕ} where
-  pub widen_none : {front : ℕ} → Widening way u v front front 0
-  widen_none = record {
-    sub = λ x e. e;
-    found = λ y e. absurd (false≢true (sym (zero_holds y) ∙ e));
-    passed = λ x e. inl e;
-  }
-
   pub widen_more : {front rest next x rest' : ℕ} → Widening way u v front rest next → SplitOf rest x rest' → (step next' : ℕ)
       → ((y : ℕ) → holds step y ≡ true → Open way u v x y) → ((y : ℕ) → Open way u v x y → holds step y ≡ true)
       → ((z : ℕ) → holds next' z ≡ holds next z || holds step z) → Widening way u v front rest' next'
@@ -47,12 +41,6 @@ module _ {way : ℕ → ℕ → Bool} {u v : ℕ} where
         (λ old. inl (split.rest_is z ∙ true_both (holds rest z) _ old (rw (ne_eqb z x ne))))
         (λ done. inr (λ y o. en y ∙ true_left (holds next y) (holds step y) (done y o)))
         (w.passed z e));
-  }
-
-  pub widen_all : {front next : ℕ} → Widening way u v front 0 next → Widened way u v front next
-  widen_all w = record {
-    found = w.found;
-    all = λ x y e o. ⊎_elim (λ left. absurd (false≢true (sym (zero_holds x) ∙ left))) (λ done. done y o) (w.passed x e);
   }
 
 -- ---- how many nodes a word holds
@@ -128,46 +116,52 @@ module _ (way : ℕ → ℕ → Bool) (u v start goal : ℕ) where
         → ((x y : ℕ) → R x ≡ true → Open way u v x y → R y ≡ true) → (x : ℕ) → holds reached x ≡ true → R x ≡ true
     pub count : depth ≤ size reached
 
-  pub seek_none : (levels : List ℕ) → 0 < length levels → Seeking (set levels 0 start) 0 start start
-  seek_none levels l = record {
-    layers = record {
-      first = get_or-set_same levels 0 start 0 l;
-      found = λ i y h. absurd (omega arith);
-      apart = λ i j y h h'. absurd (omega arith);
-    };
-    top = get_or-set_same levels 0 start 0 l;
-    within = λ i y h e. let z : i ≡ 0 = omega arith in rw (z, get_or-set_same levels 0 start 0 l) at e;
-    done = λ x e. inl e;
-    clear = λ x e. inl e;
-    starts_in = λ x e. e;
-    least = λ R h c x e. h x e;
-    count = omega arith;
-  }
-
-  module _ {levels : List ℕ} {depth front reached : ℕ} (s : Seeking levels depth front reached) (met wide next : ℕ)
-      (eh : (z : ℕ) → holds met z ≡ holds front z && holds goal z) (none : met ≡ 0)
-      (w : Widened way u v front wide) (en : (z : ℕ) → holds next z ≡ holds wide z && not (holds reached z)) where
-    front_clear : (x : ℕ) → holds front x ≡ true → holds goal x ≡ false
-    front_clear x e = ⊎_elim
-        (λ g. absurd (false≢true (sym (zero_holds x) ∙ sym (ap (λ h. holds h x) none) ∙ eh x ∙ true_both (holds front x) (holds goal x) e g)))
-        (λ g. g)
-        (true_or_false (holds goal x))
-
-    all_clear : (x : ℕ) → holds reached x ≡ true → holds goal x ≡ false
-    all_clear x e = ⊎_elim (front_clear x) (λ g. g) (s.clear x e)
-
-    pub seek_end : next ≡ 0 → Sought way u v start goal (at levels) depth met reached
-    seek_end empty = record {
+module _ {way : ℕ → ℕ → Bool} {u v start goal : ℕ} {levels : List ℕ} {depth front reached : ℕ}
+    (s : Seeking way u v start goal levels depth front reached) (met : ℕ) (eh : (z : ℕ) → holds met z ≡ holds front z && holds goal z) where
+  pub seek_met : 0 < met → Met way u v start goal (at levels) depth met
+  seek_met more = record {
+    layered = record {
       layers = s.layers;
       depth_fits = omega (arith, s.count, size_le reached);
       met_is = λ y. rw s.top (eh y);
-      none_before = λ more. absurd (omega arith);
-      all_reached = λ e. record {
+    };
+    some = more;
+    none_before = λ i y l f. ⊎_elim
+        (λ g. absurd (s.layers.apart i depth y l (omega arith) f (rw s.top g)))
+        (λ g. g)
+        (s.clear y (s.within i y (omega arith) f));
+  }
+
+  module _ (none : met ≤ 0) {wide : ℕ} (w : Widened way u v front wide) (next : ℕ)
+      (en : (z : ℕ) → holds next z ≡ holds wide z && not (holds reached z)) where
+    none_met : (z : ℕ) → holds met z ≡ false
+    none_met z = let e : met ≡ 0 = omega arith in rw e (zero_holds z)
+
+    all_clear : (x : ℕ) → holds reached x ≡ true → holds goal x ≡ false
+    all_clear x e = ⊎_elim
+        (λ f. ⊎_elim
+        (λ g. absurd (false≢true (sym (none_met x) ∙ eh x ∙ true_both (holds front x) (holds goal x) f g)))
+        (λ g. g)
+        (true_or_false (holds goal x)))
+        (λ g. g)
+        (s.clear x e)
+
+    pub seek_end : next ≡ 0 → Missed way u v start goal (at levels) reached
+    seek_end empty = record {
+      layered = (
+        depth,
+        record {
+          layers = s.layers;
+          depth_fits = omega (arith, s.count, size_le reached);
+          met_is = λ y. rw s.top (zero_holds y ∙ sym (none_met y) ∙ eh y);
+        },
+      );
+      all_reached = record {
         starts_in = s.starts_in;
         closed = λ x y inside o. ⊎_elim (λ f. fresh x y f o) (λ d. d y o) (s.done x inside);
         least = s.least;
       };
-      clear = λ e. all_clear;
+      clear = all_clear;
     }
       where
         fresh : (x y : ℕ) → holds front x ≡ true → Open way u v x y → holds reached y ≡ true
@@ -182,76 +176,65 @@ module _ (way : ℕ → ℕ → Bool) (u v start goal : ℕ) where
     new_out : (y : ℕ) → holds next y ≡ true → holds reached y ≡ false
     new_out y e = not-true (holds reached y) (both_true (holds wide y) _ (sym (en y) ∙ e)).1
 
-    pub seek_short : (y : ℕ) → y < side → holds next y ≡ true → depth < side
-    seek_short y l e = omega (arith, s.count, size_short reached y l (new_out y e))
+    module _ (small : next < 2 ^ 64) (some : next ≡ 0 → ⊥) where
+      new : SplitOf next (count_trailing_zeros 64 next) (bit_and next (next - 1))
+      new = first_taken next small (omega arith)
 
-    module _ (reached' y : ℕ) (es : (z : ℕ) → holds reached' z ≡ holds reached z || holds next z) (ly : y < side) (new : holds next y ≡ true)
-        (l : depth + 1 < length levels) where
-      old_in : (z : ℕ) → holds reached z ≡ true → holds reached' z ≡ true
-      old_in z e = es z ∙ true_left (holds reached z) (holds next z) e
+      pub seek_short : depth < side
+      seek_short = omega (arith, s.count, size_short reached _ new.in_word (new_out _ new.there))
 
-      new_in : (z : ℕ) → holds next z ≡ true → holds reached' z ≡ true
-      new_in z e = es z ∙ true_right (holds reached z) (holds next z) e
+      module _ (reached' : ℕ) (es : (z : ℕ) → holds reached' z ≡ holds reached z || holds next z) (l : depth + 1 < length levels) where
+        old_in : (z : ℕ) → holds reached z ≡ true → holds reached' z ≡ true
+        old_in z e = es z ∙ true_left (holds reached z) (holds next z) e
 
-      below : (i : ℕ) → i ≤ depth → at (set levels (depth + 1) next) i ≡ at levels i
-      below i h = get_or-set_other levels (depth + 1) i next 0 (λ e. omega arith)
+        new_in : (z : ℕ) → holds next z ≡ true → holds reached' z ≡ true
+        new_in z e = es z ∙ true_right (holds reached z) (holds next z) e
 
-      last : at (set levels (depth + 1) next) (depth + 1) ≡ next
-      last = get_or-set_same levels (depth + 1) next 0 l
+        below : (i : ℕ) → i ≤ depth → at (set levels (depth + 1) next) i ≡ at levels i
+        below i h = get_or-set_other levels (depth + 1) i next 0 (λ e. omega arith)
 
-      pub seek_more : Seeking (set levels (depth + 1) next) (depth + 1) next reached'
-      seek_more = record {
-        layers = record {
-          first = below 0 (omega arith) ∙ s.layers.first;
-          found = λ i z h e. by_cases (ℕ_discrete i depth)
-              (λ same. rw (same, below depth (omega arith), s.top) (w.found z (new_wide z (rw (same, last) at e))))
-              (λ ne. rw (below i (omega arith)) (s.layers.found i z (omega arith) (rw (below (i + 1) (omega arith)) at e)));
-          apart = λ i j z h h' e f. by_cases (ℕ_discrete j (depth + 1))
-              (λ same. true≢false (sym (s.within i z (omega arith) (rw (below i (omega arith)) at e)) ∙ new_out z (rw (same, last) at f)))
-              (λ ne. s.layers.apart i j z h (omega arith) (rw (below i (omega arith)) at e) (rw (below j (omega arith)) at f));
-        };
-        top = last;
-        within = λ i z h e. by_cases (ℕ_discrete i (depth + 1))
-            (λ same. new_in z (rw (same, last) at e))
-            (λ ne. old_in z (s.within i z (omega arith) (rw (below i (omega arith)) at e)));
-        done = λ x e. ⊎_elim
-            (λ old. inr (λ z o. ⊎_elim (λ f. fresh x z f o) (λ d. old_in z (d z o)) (s.done x old)))
-            (λ n. inl n)
-            (either_true (holds reached x) (holds next x) (sym (es x) ∙ e));
-        clear = λ x e. ⊎_elim (λ old. inr (all_clear x old)) (λ n. inl n) (either_true (holds reached x) (holds next x) (sym (es x) ∙ e));
-        starts_in = λ x e. old_in x (s.starts_in x e);
-        least = λ R h c x e. ⊎_elim
-            (s.least R h c x)
-            (λ n. let f = w.found x (new_wide x n) in c f.0 x (s.least R h c f.0 (front_reached f.0 f.2)) f.3)
-            (either_true (holds reached x) (holds next x) (sym (es x) ∙ e));
-        count = omega (arith, s.count, size_more reached reached' y ly (new_out y new) (new_in y new) old_in);
-      }
-        where
-          front_reached : (x : ℕ) → holds front x ≡ true → holds reached x ≡ true
-          front_reached x e = s.within depth x (omega arith) (rw s.top e)
+        last : at (set levels (depth + 1) next) (depth + 1) ≡ next
+        last = get_or-set_same levels (depth + 1) next 0 l
 
-          fresh : (x z : ℕ) → holds front x ≡ true → Open way u v x z → holds reached' z ≡ true
-          fresh x z f o = ⊎_elim
-              (old_in z)
-              (λ e. new_in z (en z ∙ true_both (holds wide z) _ (w.all x z f o) (true_not (holds reached z) e)))
-              (true_or_false (holds reached z))
+        pub seek_more : Seeking way u v start goal (set levels (depth + 1) next) (depth + 1) next reached'
+        seek_more = record {
+          layers = record {
+            first = below 0 (omega arith) ∙ s.layers.first;
+            found = λ i z h e. by_cases (ℕ_discrete i depth)
+                (λ same. rw (same, below depth (omega arith), s.top) (w.found z (new_wide z (rw (same, last) at e))))
+                (λ ne. rw (below i (omega arith)) (s.layers.found i z (omega arith) (rw (below (i + 1) (omega arith)) at e)));
+            apart = λ i j z h h' e f. by_cases (ℕ_discrete j (depth + 1))
+                (λ same. true≢false (sym (s.within i z (omega arith) (rw (below i (omega arith)) at e)) ∙ new_out z (rw (same, last) at f)))
+                (λ ne. s.layers.apart i j z h (omega arith) (rw (below i (omega arith)) at e) (rw (below j (omega arith)) at f));
+          };
+          top = last;
+          within = λ i z h e. by_cases (ℕ_discrete i (depth + 1))
+              (λ same. new_in z (rw (same, last) at e))
+              (λ ne. old_in z (s.within i z (omega arith) (rw (below i (omega arith)) at e)));
+          done = λ x e. ⊎_elim
+              (λ old. inr (λ z o. ⊎_elim (λ f. fresh x z f o) (λ d. old_in z (d z o)) (s.done x old)))
+              (λ n. inl n)
+              (either_true (holds reached x) (holds next x) (sym (es x) ∙ e));
+          clear = λ x e. ⊎_elim (λ old. inr (all_clear x old)) (λ n. inl n) (either_true (holds reached x) (holds next x) (sym (es x) ∙ e));
+          starts_in = λ x e. old_in x (s.starts_in x e);
+          least = λ R h c x e. ⊎_elim
+              (s.least R h c x)
+              (λ n. let f = w.found x (new_wide x n) in c f.0 x (s.least R h c f.0 (front_reached f.0 f.2)) f.3)
+              (either_true (holds reached x) (holds next x) (sym (es x) ∙ e));
+          count = omega (arith, s.count, size_more reached reached' _ new.in_word (new_out _ new.there) (new_in _ new.there) old_in);
+        }
+          where
+            front_reached : (x : ℕ) → holds front x ≡ true → holds reached x ≡ true
+            front_reached x e = s.within depth x (omega arith) (rw s.top e)
 
-  pub seek_met : {levels : List ℕ} {depth front reached : ℕ} → Seeking levels depth front reached → (met : ℕ)
-      → ((z : ℕ) → holds met z ≡ holds front z && holds goal z) → 0 < met → Sought way u v start goal (at levels) depth met reached
-  seek_met {levels} {depth} {front} {reached} s met eh more = record {
-    layers = s.layers;
-    depth_fits = omega (arith, s.count, size_le reached);
-    met_is = λ y. rw s.top (eh y);
-    none_before = λ e i y l f. ⊎_elim
-        (λ g. absurd (s.layers.apart i depth y l (omega arith) f (rw s.top g)))
-        (λ g. g)
-        (s.clear y (s.within i y (omega arith) f));
-    all_reached = λ e. absurd (omega arith);
-    clear = λ e. absurd (omega arith);
-  }
+            fresh : (x z : ℕ) → holds front x ≡ true → Open way u v x z → holds reached' z ≡ true
+            fresh x z f o = ⊎_elim
+                (old_in z)
+                (λ e. new_in z (en z ∙ true_both (holds wide z) _ (w.all x z f o) (true_not (holds reached z) e)))
+                (true_or_false (holds reached z))
 
 -- what is met lies in the last level and in the goal
-pub met_there : {way : ℕ → ℕ → Bool} {u v start goal depth met reached : ℕ} {levels : ℕ → ℕ} → Sought way u v start goal levels depth met reached
+pub met_there : {way : ℕ → ℕ → Bool} {u v start goal depth met : ℕ} {levels : ℕ → ℕ} → Layered way u v start goal levels depth met
     → (y : ℕ) → holds met y ≡ true → (holds (levels depth) y ≡ true) × (holds goal y ≡ true)
 met_there {goal = goal} {depth = depth} {levels = levels} s y e = both_true (holds (levels depth) y) (holds goal y) (sym (s.met_is y) ∙ e)
 
@@ -262,24 +245,9 @@ reached_unique s t r q = same_word s t (λ y. same_truth (holds s y) (holds t y)
 
 -- ---- where steps lead from one node
 
-module _ (way : ℕ → ℕ → Bool) (u v x here : ℕ) (small : here < 2 ^ 64) (eq : (y : ℕ) → holds here y ≡ way x y) where
-  inside : (y : ℕ) → holds here y ≡ true → y < side
-  inside y e = by_cases (dec_lt y side) (λ l. l) (λ g. absurd (true≢false (sym e ∙ past_holds 64 here y small (omega arith))))
-
-  pub steps_free : (x ≡ u → ⊥) → ((y : ℕ) → holds here y ≡ true → Open way u v x y) × ((y : ℕ) → Open way u v x y → holds here y ≡ true)
-  steps_free away = (λ y e. record { leads = sym (eq y) ∙ e; node = inside y e; not_shut = λ ex. absurd (away ex) }, λ y o. eq y ∙ o.leads)
-
-  pub steps_shut : x ≡ u → (bit r : ℕ) → ((z : ℕ) → holds bit z ≡ eqb z v) → ((z : ℕ) → holds r z ≡ holds here z && not (holds bit z))
-      → ((y : ℕ) → holds r y ≡ true → Open way u v x y) × ((y : ℕ) → Open way u v x y → holds r y ≡ true)
-  steps_shut same bit r eb er = (
-    λ y e. let b = both_true (holds here y) _ (sym (er y) ∙ e) in
-        record {
-          leads = sym (eq y) ∙ b.0;
-          node = inside y b.0;
-          not_shut = λ ex ey. true≢false (sym (eb y ∙ eq-eqb y v ey) ∙ not-true (holds bit y) b.1);
-        },
-    λ y o. er y ∙ true_both (holds here y) _ (eq y ∙ o.leads) (true_not (holds bit y) (eb y ∙ ne_eqb y v (λ e. o.not_shut same e))),
-  )
+-- what a word of the machine's holds is a node
+pub held_is_node : (word y : ℕ) → word < 2 ^ 64 → holds word y ≡ true → y < side
+held_is_node word y small e = by_cases (dec_lt y side) (λ l. l) (λ g. absurd (true≢false (sym e ∙ past_holds 64 word y small (omega arith))))
 
 -- ---- the way back through the layers
 
@@ -290,14 +258,6 @@ pub record Walking (way : ℕ → ℕ → Bool) (u v met : ℕ) (levels path : �
   pub ends : holds met (path depth) ≡ true
 
 module _ {way : ℕ → ℕ → Bool} {u v met : ℕ} where
-  pub walk_none : (levels : ℕ → ℕ) (path : List ℕ) (depth y : ℕ) → depth < length path → y < side → holds met y ≡ true
-      → holds (levels depth) y ≡ true → Walking way u v met levels (at (set path depth y)) depth depth
-  walk_none levels path depth y l ly e f = record {
-    node = λ j h h'. let same : j ≡ depth = omega arith in rw (same, get_or-set_same path depth y 0 l) (ly, f);
-    step = λ j h h'. absurd (omega arith);
-    ends = rw (get_or-set_same path depth y 0 l) e;
-  }
-
   walk_more : {levels : ℕ → ℕ} (path : List ℕ) {depth i : ℕ} → Walking way u v met levels (at path) depth (i + 1) → (x : ℕ)
       → i < depth → i < length path → x < side → holds (levels i) x ≡ true → Open way u v x (at path (i + 1))
       → Walking way u v met levels (at (set path i x)) depth i

@@ -1,7 +1,8 @@
 -- Steps by the words, one of them shut; the least set that holds the starts and that no step leaves; and the layers of a search.
-use Rattle.std.specs.Prelude.{ℕ, ◌+◌, ◌≤◌, ◌<◌, ◌≡◌, Bool, true, false, ◌&&◌}
+use Rattle.std.specs.Prelude.{ℕ, ◌+◌, ◌≤◌, ◌<◌, ◌≡◌, Bool, true, false, ◌&&◌, Result, Ok, Err}
 use Rattle.rooms.specs.Room.{side}
 use Rattle.words.specs.Word.{holds}
+use Rattle.reach.specs.declared.Found.{Found}
 
 -- a way leads from x to y, and the step is not shut
 pub record Open (way : ℕ → ℕ → Bool) (u v x y : ℕ) : Type 0 where
@@ -27,14 +28,28 @@ pub record Layers (way : ℕ → ℕ → Bool) (u v start : ℕ) (levels : ℕ �
   pub found : (i y : ℕ) → i < depth → holds (levels (i + 1)) y ≡ true → (x : ℕ) × (x < side) × (holds (levels i) x ≡ true) × Open way u v x y
   pub apart : (i j y : ℕ) → i < j → j ≤ depth → holds (levels i) y ≡ true → holds (levels j) y ≡ true → ⊥
 
--- what a search leaves: layers, and in the last of them what was looked for; or the reach of the starts, in which none of it is
-pub record Sought (way : ℕ → ℕ → Bool) (u v start goal : ℕ) (levels : ℕ → ℕ) (depth met reached : ℕ) : Type 0 where
+-- layers up to a depth, and what the last of them has of the goal
+pub record Layered (way : ℕ → ℕ → Bool) (u v start goal : ℕ) (levels : ℕ → ℕ) (depth met : ℕ) : Type 0 where
   pub layers : Layers way u v start levels depth
   pub depth_fits : depth ≤ side
   pub met_is : (y : ℕ) → holds met y ≡ (holds (levels depth) y && holds goal y)
-  pub none_before : 0 < met → (i y : ℕ) → i < depth → holds (levels i) y ≡ true → holds goal y ≡ false
-  pub all_reached : met ≡ 0 → Reached way u v start (holds reached)
-  pub clear : met ≡ 0 → (x : ℕ) → holds reached x ≡ true → holds goal x ≡ false
+
+-- the last of the layers meets the goal, and none before it does
+pub record Met (way : ℕ → ℕ → Bool) (u v start goal : ℕ) (levels : ℕ → ℕ) (depth met : ℕ) : Type 0 where
+  pub layered : Layered way u v start goal levels depth met
+  pub some : 0 < met
+  pub none_before : (i y : ℕ) → i < depth → holds (levels i) y ≡ true → holds goal y ≡ false
+
+-- the reach of the starts, in which none of the goal is, with layers of which the last meets nothing
+pub record Missed (way : ℕ → ℕ → Bool) (u v start goal : ℕ) (levels : ℕ → ℕ) (reached : ℕ) : Type 0 where
+  pub layered : (depth : ℕ) × Layered way u v start goal levels depth 0
+  pub all_reached : Reached way u v start (holds reached)
+  pub clear : (x : ℕ) → holds reached x ≡ true → holds goal x ≡ false
+
+-- what a search leaves: layers, and in the last of them what was looked for; or the reach of the starts, in which none of it is
+abbrev pub Sought : (ℕ → ℕ → Bool) → ℕ → ℕ → ℕ → ℕ → (ℕ → ℕ) → Result Found ℕ → Type 0
+Sought way u v start goal levels (Ok found) = Met way u v start goal levels found.depth found.met
+Sought way u v start goal levels (Err reached) = Missed way u v start goal levels reached
 
 -- nodes one after the other, each with a step to the next, none of them twice
 pub record Path (way : ℕ → ℕ → Bool) (u v start goal : ℕ) (levels path : ℕ → ℕ) (depth : ℕ) : Type 0 where

@@ -11,14 +11,13 @@ ghost use Rattle.reach.specs.Search.{Open, Widened, Layers, Sought, Path};
 
 use rooms::Rooms;
 use ways::word_at;
-use words::{both, but, either, one, take_first};
+use words::{Members, both, but, either, one, take_first};
 
-// The last level of a search, what of the goal it meets, and, where that is nothing, all that was reached.
+// The last level of a search, and what of the goal it meets.
 #[derive(Clone, Copy)]
 pub struct Found {
     pub depth: usize,
     pub met: u64,
-    pub reached: u64,
 }
 
 impl Found {
@@ -30,16 +29,14 @@ impl Found {
 }
 
 // Where steps lead from x, without the direct step from u to v.
+#[tactic(auto, using(crate::proofs::Layering::held_is_node))]
 fn steps(ways: &[u64], back: bool, u: usize, v: usize, x: usize) -> u64
     requires { (side + side ≤ length ways.now) × (x < side) × (u < side → v < side) }
     ensures open { (y : ℕ) → holds result y ≡ true → Open (leads ways.now back) u v x y }
     ensures all { (y : ℕ) → Open (leads ways.now back) u v x y → holds result y ≡ true }
 {
     let here = ways[word_at(back, x)];
-    if x == u {
-        return but(here, one(v));
-    }
-    here
+    if x == u { but(here, one(v)) } else { here }
 }
 
 // Where steps lead from the nodes of a set.
@@ -47,17 +44,15 @@ fn widen(ways: &[u64], back: bool, u: usize, v: usize, front: u64) -> u64
     requires { (side + side ≤ length ways.now) × (u < side → v < side) }
     ensures { Widened (leads ways.now back) u v front result }
 {
-    let mut rest = front;
-    let mut next: u64 = 0;
-    while 0 < rest {
-        let split = take_first(rest);
-        next = either(next, steps(ways, back, u, v, split.first));
-        rest = split.rest;
+    let mut next = 0;
+    for x in Members(front) {
+        next = either(next, steps(ways, back, u, v, x));
     }
     next
 }
 
-// Searches from the starts for the goal, without the direct step from u to v; with u at 64 or beyond, none is shut.
+// Searches from the starts for the goal, without the direct step from u to v; with u at 64 or beyond, none is shut. If none of
+// the goal is met, the error is all that was reached.
 pub fn search(
     ways: &[u64],
     back: bool,
@@ -66,32 +61,26 @@ pub fn search(
     start: u64,
     goal: u64,
     levels: &mut [u64],
-) -> Found
+) -> Result<Found, u64>
     requires { (side + side ≤ length ways.now) × (u < side → v < side) × (side < length levels.old) }
-    ensures { Sought (leads ways.now back) u v start goal (at levels.new) result.depth result.met result.reached }
+    ensures { Sought (leads ways.now back) u v start goal (at levels.new) result }
 {
+    levels[0] = start;
     let mut depth = 0;
     let mut front = start;
     let mut reached = start;
-    levels[0] = start;
-    let met = loop {
+    loop {
         let met = both(front, goal);
         if 0 < met {
-            break met;
+            return Ok(Found { depth, met });
         }
-        let next = but(widen(ways, back, u, v, front), reached);
-        if next == 0 {
-            break 0;
+        front = but(widen(ways, back, u, v, front), reached);
+        if front == 0 {
+            return Err(reached);
         }
         depth += 1;
-        levels[depth] = next;
-        reached = either(reached, next);
-        front = next;
-    };
-    Found {
-        depth,
-        met,
-        reached,
+        levels[depth] = front;
+        reached = either(reached, front);
     }
 }
 
@@ -114,9 +103,7 @@ pub fn trail(
 {
     let mut y = take_first(met).first;
     path[depth] = y as u8;
-    let mut i = depth;
-    while 0 < i {
-        i -= 1;
+    for i in (0..depth).rev() {
         let from = both(levels[i], steps(ways, !back, v, u, y));
         y = take_first(from).first;
         path[i] = y as u8;

@@ -10,7 +10,7 @@ ghost use Rattle.format.specs.Records.{Records};
 use format::bytes::{four, signed, two};
 use format::layout::{arcs_in, blocks_of};
 use format::{Block, Edition};
-use lists::write_arc;
+use lists::{write_arcs, write_first};
 use plan::Arc;
 
 // The arc whose record begins at a place of a payload.
@@ -20,7 +20,12 @@ fn arc_at(payload: &[u8], at: usize) -> Arc
 {
     let low = two(payload, at + 2) as u32;
     let high = two(payload, at + 4) as u32;
-    Arc::new(payload[at] as u32, payload[at + 1] as u32, low, high)
+    Arc::new(
+        u32::from(payload[at]),
+        u32::from(payload[at + 1]),
+        low,
+        high,
+    )
 }
 
 // The arc decoder: writes the arcs of a payload's first records, from arc `first` on.
@@ -29,11 +34,9 @@ fn decode(payload: &[u8], first: usize, count: usize, arcs: &mut [u32])
     requires arcs { (first + count) * arc_entries ≤ length arcs.old }
     ensures { (p : Meant) (before : List ℕ) → Records first_edition p first count payload.now → ArcsWritten p first before arcs.old → ArcsWritten p (first + count) before arcs.new }
 {
-    let mut j = 0;
-    while j < count {
-        write_arc(arcs, first + j, arc_at(payload, j * Edition::RECORD_SIZE));
-        j += 1;
-    }
+    write_arcs(arcs, first, count, |j| {
+        arc_at(payload, j * Edition::RECORD_SIZE)
+    });
 }
 
 // Writes the arcs of arc block b, where those of the blocks before it stand.
@@ -54,11 +57,8 @@ pub fn fill_arcs(file: &[u8], count: usize, arcs: &mut [u32])
     requires arcs { count * arc_entries ≤ length arcs.old }
     ensures { ArcsWritten (held first_edition file.now) count arcs.old arcs.new }
 {
-    let blocks = blocks_of(count);
-    let mut b = 1;
-    while b < blocks {
+    for b in 1..blocks_of(count) {
         fill_block(file, count, b, arcs);
-        b += 1;
     }
 }
 
@@ -68,10 +68,7 @@ pub fn fill_supplies(file: &[u8], count: usize, supplies: &mut [i32])
     requires supplies { count ≤ length supplies.old }
     ensures { SuppliesWritten (held first_edition file.now) count supplies.old supplies.new }
 {
-    let mut v = 0;
-    while v < count {
-        let at = Block::PAYLOAD_AT + v * Block::SUPPLY_SIZE;
-        supplies[v] = signed(four(file, at));
-        v += 1;
-    }
+    write_first(supplies, count, |v| {
+        signed(four(file, Block::PAYLOAD_AT + v * Block::SUPPLY_SIZE))
+    });
 }

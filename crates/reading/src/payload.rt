@@ -5,28 +5,25 @@ ghost use Rattle.file.specs.Answer.{judged_block, payload_of};
 
 use crate::check_file;
 use format::Block;
-use plan::Verdict;
+use plan::{Fault, Refusal, Verdict};
 
-// Whether there is such a payload: `Accepted`, which is number 0; else the file's own number, then 8 for a
+// Whether there is such a payload: `Ok`, which is number 0; else the file's own number, then 8 for a
 // block that is missing.
 pub fn payload_number(file: &[u8], block: usize) -> Verdict
     ensures { result ≡ judged_block first_edition file.now block }
 {
-    if let Verdict::Refused(number, index) = check_file(file) {
-        return Verdict::Refused(number, index);
-    }
+    check_file(file)?;
     if file.len() / Block::SIZE <= block {
-        return Verdict::Refused(8, 0);
+        return Err(Refusal::whole(Fault::Missing));
     }
-    Verdict::Accepted
+    Ok(())
 }
 
-// Bytes 6 to 509 of a block, as they stand in the lent file; nothing unless `payload_number` is 0.
+// Bytes 6 to 509 of a block, as they stand in the lent file; nothing unless `payload_number` is `Ok`.
 pub fn payload(file: &[u8], block: usize) -> &[u8]
     ensures { result.now ≡ payload_of first_edition file.now block }
 {
-    let verdict = payload_number(file, block);
-    let Verdict::Accepted = verdict else {
+    let Ok(()) = payload_number(file, block) else {
         return &file[0..0];
     };
     let start = block * Block::SIZE + Block::PAYLOAD_AT;

@@ -1,18 +1,14 @@
--- What is free of an arc's width says what there is to say of an end: where it lies, and which set moved it there.
-use Prim.Native.Nat.{ℕ, ◌+◌, ◌-◌, ◌<◌}
-use mathlib.Core.Path.{◌≡◌, subst}
-use mathlib.Core.Bool.{Bool, false, cond}
+-- What is free of an arc's width says where an end lies, and which set moved it there.
+use Prim.Native.Nat.{ℕ, ◌-◌, ◌<◌}
+use mathlib.Core.Path.{◌≡◌}
+use mathlib.Core.Bool.{Bool, false}
 use mathlib.Core.List.{List}
 use native.Mathlib.Omega.{arith}
-use Rattle.numbers.specs.Sums.{only}
 use Rattle.rooms.specs.Room.{seen}
 use Rattle.across.specs.Free.{Free}
 use Rattle.plan.specs.Plan.{Plan, Set, WellFormed}
-use Rattle.plan.specs.Reason.{own_end, NarrowedEnd, end_marks}
 use Rattle.stand.specs.State.{Ready}
-use Rattle.lists.specs.Written.{Written}
 use Rattle.one_arc.proofs.OneArc.{whole_end, own_standing, standing_loop, facing_end, facing_reason}
-use Rattle.reason.specs.Answer.{Cited}
 use Rattle.reason.specs.Freed.{Freed}
 
 module _ {p : Plan} {k : ℕ} (w : WellFormed p) (l : k < p.arcs) where
@@ -32,19 +28,3 @@ module _ {p : Plan} {k : ℕ} (w : WellFormed p) (l : k < p.arcs) where
     end = facing_end rooms (own_standing w l y) upper f;
     reason = facing_reason rooms (own_standing w l y) upper f;
   }
-
-  module _ {upper : Bool} {free : ℕ} {S : Set} (f : Freed p k upper free S) where
-    pub freed_stands : free ≡ p.high k - p.low k → NarrowedEnd p k upper (own_end p k upper)
-    freed_stands all = subst (λ x. NarrowedEnd p k upper x) (rw all (whole_end upper (w.uncrossed k l))) f.end
-
-    pub freed_cited : {arcs nodes arcs' nodes' : List ℕ} → (free ≡ p.high k - p.low k → ⊥) → Written (λ v. only (S v) 1) p.nodes nodes nodes'
-        → Written (end_marks p k upper S) p.arcs arcs arcs'
-        → Cited p k upper (cond upper (p.low k + free) (p.high k - free)) arcs nodes arcs' nodes'
-    freed_cited not_all inside cited =
-        let less : free < p.high k - p.low k = omega (arith, f.fits, not_all) in
-        record {
-          set = S;
-          reason = f.reason less;
-          node_marks = inside;
-          arc_marks = cited;
-        }

@@ -8,21 +8,21 @@ use mathlib.Core.Logic.{◌↔◌}
 use native.Mathlib.Omega.{arith}
 use lib.IntN.{ℤ}
 use lib.ListN.{length}
+use Rattle.std.specs.Prelude.{Some, None, Ok, Err}
 use borrow.Author.Tests.{lt-leb, le-ltb}
 use Rattle.numbers.specs.Sums.{only}
 use Rattle.plan.specs.Plan.{Plan, Set, WellFormed}
 use Rattle.plan.specs.Flow.{Flow}
 use Rattle.plan.specs.Shortage.{ShortBy}
 use Rattle.plan.specs.Reason.{own_end, NarrowedEnd}
-use Rattle.plan.specs.declared.Verdict.TheVariants.{Accepted}
+use Rattle.plan.specs.Verdict.{Accepted}
+use Rattle.plan.specs.declared.No.TheVariants.{Short, Refused}
 use Rattle.plan.proofs.Refusals.{accepted_or_refused}
 use Rattle.plan.proofs.Checked.{well_formed_asked, both_long}
 use Rattle.plan.proofs.Unique.{short_by_unique, short_or_flow}
 use Rattle.plan.proofs.EitherEnd.{end_unique, end_occurs, end_or_short, reason_end, reason_moved, end_set_unique, end_marks_alike}
 use Rattle.lists.proofs.Writing.{written_unique}
-use Rattle.reason.specs.Answer.{number, missing, is_high, judged, Cited, ReasonAnswers}
-use Rattle.reason.specs.declared.Answer.{Answer}
-use Rattle.reason.specs.declared.Answer.TheVariants.{Stands, Moved, Short, Refused}
+use Rattle.reason.specs.Answer.{Answer, number, missing, is_high, judged, Cited, ReasonAnswers}
 use Rattle.reason.proofs.Answering.{request_accepted}
 
 module _ (p : Plan) (k : ℕ) (high_end : Bool) where
@@ -60,35 +60,35 @@ module _ (p : Plan) (arc end : ℕ) (arcs nodes : List ℕ) where
 
   pub reason_answers_unique : {a n a' n' : List ℕ} (r r' : Answer) → ReasonAnswers p arc end arcs nodes a n r
       → ReasonAnswers p arc end arcs nodes a' n' r' → (r ≡ r') × (a ≡ a') × (n ≡ n')
-  reason_answers_unique Stands Stands x y = (refl, x.says.1.1 ∙ sym y.says.1.1, x.says.1.2 ∙ sym y.says.1.2)
-  reason_answers_unique Stands (Moved v) x y = absurd (stands_or_moved p arc (is_high end) x.says.1.0 y.says.1)
-  reason_answers_unique Stands (Short s) x y =
+  reason_answers_unique (Ok None) (Ok None) x y = (refl, x.says.1.1 ∙ sym y.says.1.1, x.says.1.2 ∙ sym y.says.1.2)
+  reason_answers_unique (Ok None) (Ok (Some v)) x y = absurd (stands_or_moved p arc (is_high end) x.says.1.0 y.says.1)
+  reason_answers_unique (Ok None) (Err (Short s)) x y =
       absurd (end_or_none x.says.0 (own_end p arc (is_high end)) x.says.1.0 y.says.1.0)
-  reason_answers_unique Stands (Refused m i) x y = absurd (accepted_or_refused x.says.0 y.says.0)
-  reason_answers_unique (Moved v) Stands x y = absurd (stands_or_moved p arc (is_high end) y.says.1.0 x.says.1)
-  reason_answers_unique (Moved v) (Moved v') x y = (
-    ap Moved (same_value p arc (is_high end) x.says.1 y.says.1),
+  reason_answers_unique (Ok None) (Err (Refused r)) x y = absurd (accepted_or_refused x.says.0 y.says.0)
+  reason_answers_unique (Ok (Some v)) (Ok None) x y = absurd (stands_or_moved p arc (is_high end) y.says.1.0 x.says.1)
+  reason_answers_unique (Ok (Some v)) (Ok (Some v')) x y = (
+    ap (λ v. Ok (Some v)) (same_value p arc (is_high end) x.says.1 y.says.1),
     same_arcs p arc (is_high end) x.says.1 y.says.1 (request_accepted p arc end arcs nodes x.says.0).0
         x.arcs_length y.arcs_length,
     same_nodes p arc (is_high end) x.says.1 y.says.1 x.nodes_length y.nodes_length,
   )
-  reason_answers_unique (Moved v) (Short s) x y =
+  reason_answers_unique (Ok (Some v)) (Err (Short s)) x y =
       absurd (end_or_none x.says.0 v (cited_end p arc (is_high end) x.says.1) y.says.1.0)
-  reason_answers_unique (Moved v) (Refused m i) x y = absurd (accepted_or_refused x.says.0 y.says.0)
-  reason_answers_unique (Short s) Stands x y =
+  reason_answers_unique (Ok (Some v)) (Err (Refused r)) x y = absurd (accepted_or_refused x.says.0 y.says.0)
+  reason_answers_unique (Err (Short s)) (Ok None) x y =
       absurd (end_or_none x.says.0 (own_end p arc (is_high end)) y.says.1.0 x.says.1.0)
-  reason_answers_unique (Short s) (Moved v) x y =
+  reason_answers_unique (Err (Short s)) (Ok (Some v)) x y =
       absurd (end_or_none x.says.0 v (cited_end p arc (is_high end) y.says.1) x.says.1.0)
-  reason_answers_unique (Short s) (Short s') x y = (
-    ap Short (short_by_unique x.says.1.0.1 y.says.1.0.1),
+  reason_answers_unique (Err (Short s)) (Err (Short s')) x y = (
+    ap (λ v. Err (Short v)) (short_by_unique x.says.1.0.1 y.says.1.0.1),
     x.says.1.1 ∙ sym y.says.1.1,
     x.says.1.2 ∙ sym y.says.1.2,
   )
-  reason_answers_unique (Short s) (Refused m i) x y = absurd (accepted_or_refused x.says.0 y.says.0)
-  reason_answers_unique (Refused m i) Stands x y = absurd (accepted_or_refused y.says.0 x.says.0)
-  reason_answers_unique (Refused m i) (Moved v) x y = absurd (accepted_or_refused y.says.0 x.says.0)
-  reason_answers_unique (Refused m i) (Short s) x y = absurd (accepted_or_refused y.says.0 x.says.0)
-  reason_answers_unique (Refused m i) (Refused m' i') x y = (
+  reason_answers_unique (Err (Short s)) (Err (Refused r)) x y = absurd (accepted_or_refused x.says.0 y.says.0)
+  reason_answers_unique (Err (Refused r)) (Ok None) x y = absurd (accepted_or_refused y.says.0 x.says.0)
+  reason_answers_unique (Err (Refused r)) (Ok (Some v)) x y = absurd (accepted_or_refused y.says.0 x.says.0)
+  reason_answers_unique (Err (Refused r)) (Err (Short s)) x y = absurd (accepted_or_refused y.says.0 x.says.0)
+  reason_answers_unique (Err (Refused r)) (Err (Refused r')) x y = (
     cc (x.says.0, y.says.0),
     x.says.1 ∙ sym y.says.1,
     x.says.2 ∙ sym y.says.2,
@@ -102,13 +102,14 @@ module _ (p : Plan) (arc end : ℕ) (arcs nodes : List ℕ) where
   module _ (w : WellFormed p) (there : arc < p.arcs) (an_end : end ≤ 1) (arcs_long : p.arcs ≤ length arcs)
       (nodes_long : p.nodes ≤ length nodes) where
     accepted : judged p arc end arcs nodes ≡ Accepted
-    accepted = well_formed_asked p w (both_long arcs nodes arcs_long nodes_long) {missing = missing p arc end} (rw (lt-leb p.arcs arc there, le-ltb 1 end an_end))
+    accepted = well_formed_asked p w (both_long arcs nodes arcs_long nodes_long) {missing = missing p arc end}
+        (rw (lt-leb p.arcs arc there, le-ltb 1 end an_end))
 
     pub reason_no_exactly_if_no_flow : {a n : List ℕ} (r : Answer) → ReasonAnswers p arc end arcs nodes a n r
         → (number r ≡ 9) ↔ ((f : ℕ → ℕ) → Flow p f → ⊥)
-    reason_no_exactly_if_no_flow Stands x =
+    reason_no_exactly_if_no_flow (Ok None) x =
         (λ no. absurd (omega arith), none_or_end (own_end p arc (is_high end)) x.says.1.0)
-    reason_no_exactly_if_no_flow (Moved v) x =
+    reason_no_exactly_if_no_flow (Ok (Some v)) x =
         (λ no. absurd (omega arith), none_or_end v (cited_end p arc (is_high end) x.says.1))
-    reason_no_exactly_if_no_flow (Short s) x = (λ no f c. short_or_flow w x.says.1.0.1 c, λ none. refl)
-    reason_no_exactly_if_no_flow (Refused m i) x = absurd (accepted_or_refused accepted x.says.0)
+    reason_no_exactly_if_no_flow (Err (Short s)) x = (λ no f c. short_or_flow w x.says.1.0.1 c, λ none. refl)
+    reason_no_exactly_if_no_flow (Err (Refused r)) x = absurd (accepted_or_refused accepted x.says.0)

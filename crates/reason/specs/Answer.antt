@@ -1,43 +1,38 @@
 -- What is answered of one end of one arc, in document 01's words, and what is left in the two lent buffers.
-use Rattle.std.specs.Prelude.{ℕ, ◌≡◌, Bool, ◌||◌, List, leb, ltb, eqb, ℤ, pos, length}
+use Rattle.std.specs.Prelude.{ℕ, ◌≡◌, Bool, ◌||◌, List, leb, ltb, eqb, ℤ, pos, length, Option, Some, None, Result, Ok, Err}
 use Rattle.numbers.specs.Sums.{only}
 use Rattle.plan.specs.Plan.{Plan, Set}
-use Rattle.plan.specs.Verdict.{verdict, asking_rules, lent_short}
+use Rattle.plan.specs.Verdict.{verdict, number_of, asking_rules, lent_short, Verdict, Accepted}
+use Rattle.plan.specs.declared.No.{No}
+use Rattle.plan.specs.declared.No.TheVariants.{Short, Refused}
 use Rattle.plan.specs.Shortage.{ShortBy}
 use Rattle.plan.specs.Reason.{own_end, NarrowedEnd, EndReason, end_marks}
-use Rattle.plan.specs.declared.Verdict.{Verdict}
-use Rattle.plan.specs.declared.Verdict.TheVariants.{Accepted, Refused as TurnedDown}
 use Rattle.lists.specs.Written.{Written}
-use Rattle.stand.specs.declared.Asked.{Asked}
-use Rattle.stand.specs.declared.Asked.TheVariants.{Balances, Lacks}
-use Rattle.reason.specs.declared.Answer.{Answer}
-use Rattle.reason.specs.declared.Answer.TheVariants.{Stands, Moved, Short, Refused}
+use Rattle.stand.specs.declared.Shortage.{Shortage}
+
+-- the end stands, or it moved to a value; or why nothing is said of it
+abbrev pub Answer : Type 0
+Answer = Result (Option ℕ) No
 
 -- the number that document 01 gives each answer, 0 where the end stands or has a reason
 abbrev pub number : Answer → ℕ
-number Stands = 0
-number (Moved value) = 0
-number (Short value) = 9
-number (Refused n place) = n
+number (Ok moved) = 0
+number (Err (Short value)) = 9
+number (Err (Refused refusal)) = number_of refusal.fault
 
 -- the place that goes with it, or 0; an end that moved is told by 1
 abbrev pub place : Answer → ℕ
-place Stands = 0
-place (Moved value) = 1
-place (Short value) = 0
-place (Refused n i) = i
+place (Ok None) = 0
+place (Ok (Some value)) = 1
+place (Err (Short value)) = 0
+place (Err (Refused refusal)) = refusal.place
 
 -- the value that it carries, or 0
 abbrev pub carried : Answer → ℤ
-carried Stands = pos 0
-carried (Moved value) = pos value
-carried (Short value) = value
-carried (Refused n i) = pos 0
-
--- the answer to a plan that was asked, before an end is looked at
-abbrev pub answer_to : Asked → Answer
-answer_to Balances = Stands
-answer_to (Lacks value) = Short value
+carried (Ok None) = pos 0
+carried (Ok (Some value)) = pos value
+carried (Err (Short value)) = value
+carried (Err (Refused refusal)) = pos 0
 
 -- there is no such arc, or the end is neither 0 nor 1
 abbrev pub missing : Plan → (arc end : ℕ) → Bool
@@ -59,23 +54,21 @@ pub record Cited (p : Plan) (k : ℕ) (upper : Bool) (value : ℕ) (arcs nodes a
   pub arc_marks : Written (end_marks p k upper set) p.arcs arcs arcs'
 
 -- what is told of an end of arc k, and how the buffers are left: as they were, unless the end moved
-abbrev pub Told : Plan → ℕ → (upper : Bool) → (arcs nodes arcs' nodes' : List ℕ) → Answer → Type 0
-Told p k upper arcs nodes arcs' nodes' Stands =
+abbrev pub Told : Plan → ℕ → (upper : Bool) → (arcs nodes arcs' nodes' : List ℕ) → Result (Option ℕ) Shortage → Type 0
+Told p k upper arcs nodes arcs' nodes' (Ok None) =
     NarrowedEnd p k upper (own_end p k upper) × (arcs' ≡ arcs) × (nodes' ≡ nodes)
-Told p k upper arcs nodes arcs' nodes' (Moved value) = Cited p k upper value arcs nodes arcs' nodes'
-Told p k upper arcs nodes arcs' nodes' (Short value) = ((S : Set) × ShortBy p value S) × (arcs' ≡ arcs) × (nodes' ≡ nodes)
-Told p k upper arcs nodes arcs' nodes' (Refused n place) = ⊥
+Told p k upper arcs nodes arcs' nodes' (Ok (Some value)) = Cited p k upper value arcs nodes arcs' nodes'
+Told p k upper arcs nodes arcs' nodes' (Err shortage) =
+    ((S : Set) × ShortBy p shortage.value S) × (arcs' ≡ arcs) × (nodes' ≡ nodes)
 
 -- what is answered, and how the buffers are left, for every input
 abbrev pub Says : Plan → (arc end : ℕ) → (arcs nodes arcs' nodes' : List ℕ) → Answer → Type 0
-Says p arc end arcs nodes arcs' nodes' Stands =
-    (judged p arc end arcs nodes ≡ Accepted) × Told p arc (is_high end) arcs nodes arcs' nodes' Stands
-Says p arc end arcs nodes arcs' nodes' (Moved value) =
-    (judged p arc end arcs nodes ≡ Accepted) × Told p arc (is_high end) arcs nodes arcs' nodes' (Moved value)
-Says p arc end arcs nodes arcs' nodes' (Short value) =
-    (judged p arc end arcs nodes ≡ Accepted) × Told p arc (is_high end) arcs nodes arcs' nodes' (Short value)
-Says p arc end arcs nodes arcs' nodes' (Refused n place) =
-    (judged p arc end arcs nodes ≡ TurnedDown n place) × (arcs' ≡ arcs) × (nodes' ≡ nodes)
+Says p arc end arcs nodes arcs' nodes' (Ok moved) =
+    (judged p arc end arcs nodes ≡ Accepted) × Told p arc (is_high end) arcs nodes arcs' nodes' (Ok moved)
+Says p arc end arcs nodes arcs' nodes' (Err (Short value)) =
+    (judged p arc end arcs nodes ≡ Accepted) × (((S : Set) × ShortBy p value S) × (arcs' ≡ arcs) × (nodes' ≡ nodes))
+Says p arc end arcs nodes arcs' nodes' (Err (Refused refusal)) =
+    (judged p arc end arcs nodes ≡ Err refusal) × (arcs' ≡ arcs) × (nodes' ≡ nodes)
 
 pub record ReasonAnswers (p : Plan) (arc end : ℕ) (arcs nodes arcs' nodes' : List ℕ) (answer : Answer) : Type 0 where
   pub says : Says p arc end arcs nodes arcs' nodes' answer

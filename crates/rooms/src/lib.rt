@@ -15,9 +15,6 @@ impl Rooms {
     pub const SIDE: usize = 64;
 
     pub const CELLS: usize = Rooms::SIDE * Rooms::SIDE;
-
-    // The most that a number can be.
-    pub const MOST: u32 = 4294967295;
 }
 
 // The place of the room from x to y; looked at backwards, of the room from y to x.
@@ -45,7 +42,7 @@ pub fn take(numbers: &mut [u32], y: usize, d: u32)
     requires { (y < length numbers.old) × (d ≤ at numbers.old y) }
     ensures { Less (at numbers.old) (at numbers.new) y d }
 {
-    numbers[y] = numbers[y] - d;
+    numbers[y] -= d;
 }
 
 // Adds d to the number at a place: taking it off again gives what was there.
@@ -53,12 +50,5 @@ pub fn add(numbers: &mut [u32], y: usize, d: u32)
     requires { (y < length numbers.old) × (at numbers.old y + d < 2 ^ 32) }
     ensures { Less (at numbers.new) (at numbers.old) y d }
 {
-    numbers[y] = numbers[y] + d;
-}
-
-// The lesser of two numbers.
-pub fn lesser(a: u32, b: u32) -> u32
-    ensures { (result ≤ a) × (result ≤ b) × (0 < a → 0 < b → 0 < result) × (result < a → result ≡ b) }
-{
-    if a < b { a } else { b }
+    numbers[y] += d;
 }

@@ -16,28 +16,23 @@ pub fn number<P: Print>(to: &P, n: u64) -> io::Result<()> {
 
 // A shortfall is above 0.
 pub fn shortfall<P: Print>(to: &P, value: i64) -> io::Result<()> {
-    if 0 <= value {
-        number(to, value as u64)?;
+    if let Ok(value) = u64::try_from(value) {
+        number(to, value)?;
     }
     Ok(())
 }
 
 // The nodes that are marked 1.
 pub fn set<P: Print>(to: &P, marks: &[u8]) -> io::Result<()> {
-    let mut v = 0;
-    while v < marks.len() {
-        if marks[v] == 1 {
+    for (v, &mark) in marks.iter().enumerate() {
+        if mark == 1 {
             number(to, v as u64)?;
         }
-        v += 1;
     }
     Ok(())
 }
 
 // The number and the place by which an input is turned down.
 pub fn refused<P: Print>(to: &P, n: u32, place: usize) -> io::Result<()> {
-    text(to, b"refused")?;
-    number(to, n as u64)?;
-    text(to, b" at")?;
-    number(to, place as u64)
+    print!(to; "refused {n} at {place}")
 }

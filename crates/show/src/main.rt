@@ -8,14 +8,13 @@
 #![tactic(auto)]
 
 use count::request::{count, count_network};
-use file::Written;
-use flow::Answer;
 use flow::question::question;
 use format::Block;
 use format::bytes::two;
+use held::Unheld;
 use held::request::hold;
 use narrow::request::narrow;
-use plan::Verdict;
+use plan::{Network, No, Plan, Refusal};
 use reading::payload::payload;
 use reading::read;
 use reason::request::reason;
@@ -26,217 +25,190 @@ use writing::write;
 
 // The first m counts.
 fn say_counts<P: Print>(to: &P, counts: &[u32], m: usize) -> io::Result<()> {
-    let mut k = 0;
-    while k < m {
-        if k < counts.len() {
-            say::number(to, counts[k] as u64)?;
-        }
-        k += 1;
+    for count in counts.iter().take(m) {
+        print!(to; " {count}")?;
     }
     Ok(())
 }
 
 // The arcs that are marked, each with the end that is cited.
 fn say_cited<P: Print>(to: &P, marks: &[u32]) -> io::Result<()> {
-    let mut k = 0;
-    while k < marks.len() {
-        if marks[k] == 1 {
-            say::number(to, k as u64)?;
-            say::text(to, b" low")?;
+    for (k, &mark) in marks.iter().enumerate() {
+        match mark {
+            1 => print!(to; " {k} low")?,
+            2 => print!(to; " {k} high")?,
+            _ => {}
         }
-        if marks[k] == 2 {
-            say::number(to, k as u64)?;
-            say::text(to, b" high")?;
-        }
-        k += 1;
     }
     Ok(())
 }
 
 // The marks of a shortage or of a reason.
 fn say_marks<P: Print>(to: &P, nodes: &[u8], arcs: &[u32]) -> io::Result<()> {
-    say::text(to, b", in")?;
+    to.print(", in")?;
     say::set(to, nodes)?;
-    say::text(to, b", cites")?;
-    say_cited(to, arcs)?;
-    Ok(())
+    to.print(", cites")?;
+    say_cited(to, arcs)
 }
 
+// That there is no flow, and by how much.
 fn say_none<P: Print>(to: &P, value: i64) -> io::Result<()> {
-    say::text(to, b" none")?;
-    say::shortfall(to, value)?;
-    Ok(())
+    to.print(" none")?;
+    say::shortfall(to, value)
 }
 
-fn say_refused<P: Print>(to: &P, number: u32, index: usize) -> io::Result<()> {
-    say::text(to, b" ")?;
-    say::refused(to, number, index)?;
-    Ok(())
+// By which number the input is turned down, and for which place.
+fn say_refused<P: Print>(to: &P, refusal: Refusal) -> io::Result<()> {
+    to.print(" ")?;
+    say::refused(to, refusal.fault.number(), refusal.place)
 }
 
-fn show_flow<P: Print>(to: &P, arcs: &[u32], supplies: &[i32]) -> io::Result<()> {
+// Why there is nothing to give.
+fn say_no<P: Print>(to: &P, no: No) -> io::Result<()> {
+    match no {
+        No::Short(value) => say_none(to, value),
+        No::Refused(refusal) => say_refused(to, refusal),
+    }
+}
+
+// What the flow question says.
+fn show_flow<P: Print>(to: &P, network: Network) -> io::Result<()> {
     let mut arc_buffer = [0u32; 8];
     let mut node_buffer = [0u8; 6];
-    match question(arcs, supplies, &mut arc_buffer, &mut node_buffer) {
-        Answer::Runs => {
-            say::text(to, b" runs")?;
-            say_counts(to, &arc_buffer, arcs.len() / 4)?;
+    match question(network, &mut arc_buffer, &mut node_buffer) {
+        Ok(()) => {
+            to.print(" runs")?;
+            say_counts(to, &arc_buffer, network.size().arcs)?;
         }
-        Answer::Short(value) => {
+        Err(No::Short(value)) => {
             say_none(to, value)?;
             say_marks(to, &node_buffer, &arc_buffer)?;
         }
-        Answer::Refused(number, index) => say_refused(to, number, index)?,
+        Err(No::Refused(refusal)) => say_refused(to, refusal)?,
     }
-    say::text(to, b"\n")?;
-    Ok(())
+    println!(to)
 }
 
-fn show_ranges<P: Print>(to: &P, arcs: &[u32], supplies: &[i32]) -> io::Result<()> {
+// The narrowed range of each arc, or why there is none.
+fn show_ranges<P: Print>(to: &P, network: Network) -> io::Result<()> {
     let mut lows = [0u32; 4];
     let mut highs = [0u32; 4];
-    match narrow(arcs, supplies, &mut lows, &mut highs) {
-        Answer::Runs => {
-            say::text(to, b"  from")?;
-            say_counts(to, &lows, arcs.len() / 4)?;
-            say::text(to, b" to")?;
-            say_counts(to, &highs, arcs.len() / 4)?;
+    match narrow(network, &mut lows, &mut highs) {
+        Ok(()) => {
+            to.print("  from")?;
+            say_counts(to, &lows, network.size().arcs)?;
+            to.print(" to")?;
+            say_counts(to, &highs, network.size().arcs)?;
         }
-        Answer::Short(value) => say_none(to, value)?,
-        Answer::Refused(number, index) => say_refused(to, number, index)?,
+        Err(no) => say_no(to, no)?,
     }
-    say::text(to, b"\n")?;
-    Ok(())
+    println!(to)
 }
 
 // One end of one arc: 0 the low end, 1 the high end.
-fn show_end<P: Print>(
-    to: &P,
-    arcs: &[u32],
-    supplies: &[i32],
-    arc: u32,
-    end: u32,
-) -> io::Result<()> {
+fn show_end<P: Print>(to: &P, network: Network, arc: u32, end: u32) -> io::Result<()> {
     let mut arc_buffer = [0u32; 4];
     let mut node_buffer = [0u8; 4];
-    say::text(to, b"  arc")?;
-    say::number(to, arc as u64)?;
-    say::text(to, b" end")?;
-    say::number(to, end as u64)?;
-    match reason(arcs, supplies, arc, end, &mut arc_buffer, &mut node_buffer) {
-        reason::Answer::Stands => say::text(to, b" stands")?,
-        reason::Answer::Moved(value) => {
-            say::text(to, b" moved to")?;
-            say::number(to, value as u64)?;
+    print!(to; "  arc {arc} end {end}")?;
+    match reason(network, arc, end, &mut arc_buffer, &mut node_buffer) {
+        Ok(None) => to.print(" stands")?,
+        Ok(Some(value)) => {
+            print!(to; " moved to {value}")?;
             say_marks(to, &node_buffer, &arc_buffer)?;
         }
-        reason::Answer::Short(value) => say_none(to, value)?,
-        reason::Answer::Refused(number, index) => say_refused(to, number, index)?,
+        Err(no) => say_no(to, no)?,
     }
-    say::text(to, b"\n")?;
-    Ok(())
+    println!(to)
 }
 
-fn show_held<P: Print>(
-    to: &P,
-    arcs: &[u32],
-    supplies: &[i32],
-    arc: u32,
-    count: u32,
-) -> io::Result<()> {
+// An arc held at a count.
+fn show_held<P: Print>(to: &P, network: Network, arc: u32, count: u32) -> io::Result<()> {
     let mut arc_buffer = [0u32; 4];
-    say::text(to, b"  arc")?;
-    say::number(to, arc as u64)?;
-    say::text(to, b" at")?;
-    say::number(to, count as u64)?;
-    match hold(arcs, supplies, arc, count, &mut arc_buffer) {
-        held::Answer::Runs => {
-            say::text(to, b" runs")?;
-            say_counts(to, &arc_buffer, arcs.len() / 4)?;
+    print!(to; "  arc {arc} at {count}")?;
+    match hold(network, arc, count, &mut arc_buffer) {
+        Ok(()) => {
+            to.print(" runs")?;
+            say_counts(to, &arc_buffer, network.size().arcs)?;
         }
-        held::Answer::Short(value) => say_none(to, value)?,
-        held::Answer::Outside => say::text(to, b" outside")?,
-        held::Answer::Refused(number, index) => say_refused(to, number, index)?,
+        Err(Unheld::Short(value)) => say_none(to, value)?,
+        Err(Unheld::Outside) => to.print(" outside")?,
+        Err(Unheld::Refused(refusal)) => say_refused(to, refusal)?,
     }
-    say::text(to, b"\n")?;
-    Ok(())
+    println!(to)
 }
 
 // A plan of m arcs that runs: its ranges, and why each end of each arc lies where it does.
-fn show_ends<P: Print>(to: &P, arcs: &[u32], supplies: &[i32], m: u32) -> io::Result<()> {
-    show_ranges(to, arcs, supplies)?;
-    let mut arc = 0;
-    while arc < m {
-        show_end(to, arcs, supplies, arc, 0)?;
-        show_end(to, arcs, supplies, arc, 1)?;
-        arc += 1;
+fn show_ends<P: Print>(to: &P, network: Network, m: u32) -> io::Result<()> {
+    show_ranges(to, network)?;
+    for arc in 0..m {
+        show_end(to, network, arc, 0)?;
+        show_end(to, network, arc, 1)?;
     }
     Ok(())
 }
 
-fn show<P: Print>(to: &P, name: &[u8], arcs: &[u32], supplies: &[i32], m: u32) -> io::Result<()> {
-    say::text(to, name)?;
-    show_flow(to, arcs, supplies)?;
-    show_ends(to, arcs, supplies, m)?;
-    Ok(())
+// A plan under its name: what the flow question says of it.
+fn show_plan<P: Print>(to: &P, name: &str, arcs: &[u32], supplies: &[i32]) -> io::Result<()> {
+    to.print(name)?;
+    show_flow(to, Network { arcs, supplies })
 }
 
-fn refuse<P: Print>(to: &P, name: &[u8], arcs: &[u32], supplies: &[i32]) -> io::Result<()> {
-    say::text(to, name)?;
-    show_flow(to, arcs, supplies)?;
-    Ok(())
+// The same of a plan of m arcs that runs, and then its ends.
+fn show_running<P: Print>(
+    to: &P,
+    name: &str,
+    arcs: &[u32],
+    supplies: &[i32],
+    m: u32,
+) -> io::Result<()> {
+    show_plan(to, name, arcs, supplies)?;
+    show_ends(to, Network { arcs, supplies }, m)
 }
 
 // P1, and its arc 0 held at a count inside its narrowed range and at one outside.
 fn show_first<P: Print>(to: &P) -> io::Result<()> {
     let arcs = [0, 1, 0, 4, 0, 2, 0, 3, 1, 2, 0, 9];
     let supplies = [5, 0, -5];
-    show(to, b"P1", &arcs, &supplies, 3)?;
-    show_held(to, &arcs, &supplies, 0, 3)?;
-    show_held(to, &arcs, &supplies, 0, 1)?;
-    Ok(())
+    show_running(to, "P1", &arcs, &supplies, 3)?;
+    let network = Network {
+        arcs: &arcs,
+        supplies: &supplies,
+    };
+    show_held(to, network, 0, 3)?;
+    show_held(to, network, 0, 1)
 }
 
+// Two plans without a flow, one whose arc is full, and one whose arc leads back to where it begins.
 fn show_second<P: Print>(to: &P) -> io::Result<()> {
-    refuse(
-        to,
-        b"P2",
-        &[0, 1, 0, 4, 0, 2, 0, 0, 1, 2, 0, 9],
-        &[5, 0, -5],
-    )?;
-    refuse(to, b"P3", &[0, 1, 0, 255], &[256, -256])?;
-    show(to, b"P4", &[0, 1, 0, 256], &[256, -256], 1)?;
-    show(to, b"P5", &[0, 0, 3, 7], &[0], 1)?;
-    Ok(())
+    show_plan(to, "P2", &[0, 1, 0, 4, 0, 2, 0, 0, 1, 2, 0, 9], &[5, 0, -5])?;
+    show_plan(to, "P3", &[0, 1, 0, 255], &[256, -256])?;
+    show_running(to, "P4", &[0, 1, 0, 256], &[256, -256], 1)?;
+    show_running(to, "P5", &[0, 0, 3, 7], &[0], 1)
 }
 
+// Supplies that no arc carries or that do not add up to 0, a low that must be sent, and two arcs side by side.
 fn show_third<P: Print>(to: &P) -> io::Result<()> {
-    refuse(to, b"P6", &[], &[1, -1])?;
-    refuse(to, b"P7", &[], &[1])?;
-    refuse(to, b"P8", &[0, 1, 1, 2], &[0, 0])?;
-    show(to, b"P9", &[0, 1, 0, 1, 0, 1, 0, 1], &[1, -1], 2)?;
-    Ok(())
+    show_plan(to, "P6", &[], &[1, -1])?;
+    show_plan(to, "P7", &[], &[1])?;
+    show_plan(to, "P8", &[0, 1, 1, 2], &[0, 0])?;
+    show_running(to, "P9", &[0, 1, 0, 1, 0, 1, 0, 1], &[1, -1], 2)
 }
 
 // The values of a domain.
 fn say_domain<P: Print>(to: &P, word: u64) -> io::Result<()> {
-    let mut j = 0;
-    while j < 64 {
+    for j in 0..64 {
         if has(word, j) {
-            say::number(to, j as u64)?;
+            print!(to; " {j}")?;
         }
-        j += 1;
     }
-    say::text(to, b";")?;
-    Ok(())
+    to.print(";")
 }
 
+// The values of each domain.
 fn say_domains<P: Print>(to: &P, words: &[u64]) -> io::Result<()> {
-    say::text(to, b" domains")?;
-    let mut i = 0;
-    while i < words.len() {
-        say_domain(to, words[i])?;
-        i += 1;
+    to.print(" domains")?;
+    for word in words {
+        say_domain(to, *word)?;
     }
     Ok(())
 }
@@ -247,18 +219,16 @@ fn show_counting<P: Print>(to: &P, domains: &[u64], counts: &[u32]) -> io::Resul
     let mut lows = [0u32; 4];
     let mut highs = [0u32; 4];
     match count(domains, counts, &mut words, &mut lows, &mut highs) {
-        Answer::Runs => {
+        Ok(()) => {
             say_domains(to, &words)?;
-            say::text(to, b" counts from")?;
+            to.print(" counts from")?;
             say_counts(to, &lows, 4)?;
-            say::text(to, b" to")?;
+            to.print(" to")?;
             say_counts(to, &highs, 4)?;
         }
-        Answer::Short(value) => say_none(to, value)?,
-        Answer::Refused(number, index) => say_refused(to, number, index)?,
+        Err(no) => say_no(to, no)?,
     }
-    say::text(to, b"\n")?;
-    Ok(())
+    println!(to)
 }
 
 // A counting plan, and its network asked the flow question; the lists are as long as the network.
@@ -270,18 +240,18 @@ fn show_network<P: Print>(
     arcs: &mut [u32],
 ) -> io::Result<()> {
     show_counting(to, domains, counts)?;
-    if let Verdict::Refused(number, index) = count_network(domains, counts, supplies, arcs) {
-        say_refused(to, number, index)?;
+    if let Err(refusal) = count_network(domains, counts, supplies, arcs) {
+        say_refused(to, refusal)?;
     }
-    say::text(to, b"  network")?;
-    show_flow(to, arcs, supplies)?;
-    Ok(())
+    to.print("  network")?;
+    show_flow(to, Network { arcs, supplies })
 }
 
+// The counting plans.
 fn show_fourth<P: Print>(to: &P) -> io::Result<()> {
-    say::text(to, b"P10")?;
+    to.print("P10")?;
     show_counting(to, &[10, 10, 3, 13], &[0, 1, 0, 1, 0, 1, 0, 1])?;
-    say::text(to, b"P11")?;
+    to.print("P11")?;
     show_network(
         to,
         &[3, 3, 3],
@@ -289,42 +259,37 @@ fn show_fourth<P: Print>(to: &P) -> io::Result<()> {
         &mut [0i32; 6],
         &mut [0u32; 32],
     )?;
-    say::text(to, b"P12")?;
-    show_network(to, &[0], &[0, 1], &mut [0i32; 3], &mut [0u32; 8])?;
-    Ok(())
+    to.print("P12")?;
+    show_network(to, &[0], &[0, 1], &mut [0i32; 3], &mut [0u32; 8])
 }
 
 // The file of one block, as it was written.
 fn show_block<P: Print>(to: &P, file: &[u8; Block::SIZE]) -> io::Result<()> {
-    say::text(to, b", check")?;
-    say::number(to, two(file, Block::CHECK_AT) as u64)?;
-    say::text(to, b", payloads")?;
-    say::number(to, payload(file, 0).len() as u64)?;
-    say::number(to, payload(file, 1).len() as u64)?;
+    let check = two(file, Block::CHECK_AT);
+    let (first, second) = (payload(file, 0).len(), payload(file, 1).len());
+    print!(to; ", check {check}, payloads {first} {second}")?;
     match read(file, &mut [0i32; 1], &mut []) {
-        file::Answer::Read(nodes, arcs) => {
-            say::text(to, b", read")?;
-            say::number(to, nodes as u64)?;
-            say::number(to, arcs as u64)?;
-        }
-        file::Answer::Refused(number, index) => say_refused(to, number, index)?,
+        Ok(Plan { nodes, arcs }) => print!(to; ", read {nodes} {arcs}"),
+        Err(refusal) => say_refused(to, refusal),
     }
-    Ok(())
 }
 
 // P13: one station with nothing to send, as a file.
 fn show_file<P: Print>(to: &P) -> io::Result<()> {
     let mut file = [0u8; Block::SIZE];
-    say::text(to, b"P13")?;
-    match write(&[], &[0], &mut file) {
-        Written::Length(length) => {
-            say::number(to, length as u64)?;
+    to.print("P13")?;
+    let network = Network {
+        arcs: &[],
+        supplies: &[0],
+    };
+    match write(network, &mut file) {
+        Ok(length) => {
+            print!(to; " {length}")?;
             show_block(to, &file)?;
         }
-        Written::Refused(number, index) => say_refused(to, number, index)?,
+        Err(refusal) => say_refused(to, refusal)?,
     }
-    say::text(to, b"\n")?;
-    Ok(())
+    println!(to)
 }
 
 fn main(rt: HostRuntime) -> io::Result<()> {
@@ -332,6 +297,5 @@ fn main(rt: HostRuntime) -> io::Result<()> {
     show_second(&rt)?;
     show_third(&rt)?;
     show_fourth(&rt)?;
-    show_file(&rt)?;
-    Ok(())
+    show_file(&rt)
 }

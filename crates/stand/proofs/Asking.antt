@@ -1,13 +1,22 @@
 -- What settling a plan shows. If nothing is over any more, everything balances. Otherwise the reach of what is over holds all of
 -- it and nothing that lacks, and no room leads out of it: it is the shortage set, and what is over is its shortfall.
-use Prim.Native.Nat.{ℕ, ◌<◌}
+use Prim.Native.Nat.{ℕ, zero, suc, ◌^◌, ◌≤◌, ◌<◌}
 use mathlib.Core.Path.{◌≡◌, refl}
 use mathlib.Core.Bool.{Bool, true, false}
 use native.Mathlib.Omega.{arith}
+use native.Mathlib.Numerals.{add-one}
+use Rattle.std.proofs.lemmas.List.Elements.{All-from_get_or}
+use Rattle.std.proofs.lemmas.List.Sums.{sum_by-le, sum_by_more}
 use lib.IntN.{pos}
+use lib.ListN.{length, take}
+use mathlib.Core.List.{List}
+use mir.Syntax.{w32}
+use mir.Val.{Fits}
+use Rattle.std.specs.List as L
+use Rattle.plan.specs.Limits.{most_nodes}
 use Rattle.numbers.specs.Sums.{sum}
 use Rattle.numbers.proofs.Parts.{whole}
-use Rattle.rooms.specs.Room.{crossing}
+use Rattle.rooms.specs.Room.{at, crossing}
 use Rattle.reach.specs.Reach.{Closed}
 use Rattle.engine.specs.Settle as E
 use Rattle.across.proofs.Crossing.{crossing_closed, crossing_member}
@@ -16,6 +25,21 @@ use Rattle.plan.specs.Shortage.{ShortBy}
 use Rattle.plan.proofs.Certificate.{Ledger, Settled, settled_shortage, settled_shortfall}
 use Rattle.stand.specs.State.{Represents, Ready}
 use Rattle.stand.proofs.Standing.{kept_represents, none_over_ready}
+
+-- ---- what is over, added up
+
+-- at most 64 numbers of 32 bits
+pub total_small : (numbers : List ℕ) → length numbers ≤ most_nodes → ((i : ℕ) → Fits w32 (at numbers i)) → L.sum numbers < 2 ^ 63
+total_small numbers few fit =
+    omega (arith, sum_by-le (λ x. x) 4294967295 numbers (All-from_get_or (λ x. x ≤ 4294967295) numbers 0 (λ i l. omega (arith, fit i))))
+
+-- the numbers of the first n nodes, as a list and as a sum over the nodes
+pub total_front : (n : ℕ) (numbers : List ℕ) → n ≤ length numbers → L.sum (take n numbers) ≡ sum n (at numbers)
+total_front zero numbers whole = refl
+total_front (suc n) numbers whole =
+    omega (arith, rw add-one at (sum_by_more (λ x. x) numbers n 0 (omega arith)), total_front n numbers (omega arith))
+
+-- ---- what settling shows
 
 module _ {p : Plan} (w : WellFormed p) {room room' : ℕ → ℕ → ℕ} {over under over' under' : ℕ → ℕ} {S : Set}
     (r : Represents p room over under) (s : E.Settled p.nodes room over under room' over' under' S) where

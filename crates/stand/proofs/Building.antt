@@ -4,58 +4,59 @@
 -- between the plan's nodes.
 use Prim.Native.Nat.{ℕ, zero, suc, ◌+◌, ◌-◌, ◌*◌, ◌^◌, ◌≤◌, ◌<◌}
 use mathlib.Core.Path.{◌≡◌, refl, sym, ap, ◌∙◌}
-use mathlib.Core.Bool.{Bool, true, false, false≢true, not, ◌&&◌}
+use mathlib.Core.Bool.{Bool, true, false, not, ◌&&◌}
 use mathlib.Core.List.{List}
 use mathlib.Core.Logic.{⊎_elim}
 use native.Mathlib.Omega.{arith}
 use native.Mathlib.Nat.{add-sub_of_le}
-use lib.Dec.{T, eqb}
-use lib.IntN.{ℤ, pos, negsuc, nat_abs, ◌+ℤ◌, ◌-ℤ◌}
-use lib.Signed.{le_z, non_neg}
-use lib.ListN.{length, get_or, set}
+use lib.Dec.{eqb}
+use lib.IntN.{ℤ, pos, negsuc, nat_abs, ◌+ℤ◌}
+use lib.ListN.{length, set}
 use lib.Seq.{get_or-set_same, get_or-set_other}
-use borrow.Author.Tests.{leb-false, eqb-true, eqb-false}
+use borrow.Author.Tests.{lt-ltb, eqb-true, eqb-false}
+use Rattle.std.specs.Int.{int_max, int_min}
+use Rattle.std.specs.Int.RustNames.{unsigned_abs}
+use mir.Syntax.{w32}
+use mir.Val.{SFits, to_z, of_z}
+use mir.Facts.{to_z-of_z}
 use Rattle.numbers.specs.Sums.{sum, only, sum_in}
 use Rattle.numbers.specs.Parts.{plus, minus}
 use Rattle.numbers.proofs.Parts.{whole, add, magnitude}
 use Rattle.numbers.proofs.Sums.{last_or_before, sum_same, sum_in_same, sum_in_some, sum_in_add, sum_in_gathered}
-use Rattle.words.proofs.Bits.{zero_holds}
-use Rattle.rooms.specs.Room.{side, at, cell, seen, crossing, Fitting}
+use Rattle.rooms.specs.Room.{side, crossing, Fitting}
 use Rattle.rooms.specs.Move.{Taken, Less}
-use Rattle.ways.specs.Ways.{row, Ways}
 use Rattle.numbers.proofs.Truth.{both_true}
 use Rattle.plan.specs.Limits.{most_supply, widest_high}
-use Rattle.plan.specs.Plan.{Plan, Set, WellFormed, plan_of}
+use Rattle.plan.specs.Plan.{Plan, Set, WellFormed}
 use Rattle.plan.specs.Flow.{total, out, into}
 use Rattle.plan.specs.Shortage.{leaves, shortfall}
 use Rattle.plan.proofs.Cut.{shortfall_parts, cut_identity, joined}
 use Rattle.stand.specs.State.{widths, Represents}
-use Rattle.stand.specs.Desk.{EmptyDesk}
 use Rattle.lists.specs.Written.{Written}
 
 -- ---- supplies
 
--- a supply of 0 or more is what its node has; one below 0 is, turned, what its node lacks
-pub positive_has : (z : ℤ) → le_z (pos 0) z ≡ true → T (non_neg z) × (nat_abs z ≡ plus z)
-positive_has (pos n) e = (tt, refl)
-positive_has (negsuc n) e = absurd (false≢true e)
+-- what a node of this supply has, and what it lacks, in the code's steps
+module _ {z : ℤ} (fits : SFits w32 z) where
+  pub has_is : {most : ℤ} {has : ℕ} → SFits w32 most → most ≡ int_max (to_z w32 (of_z w32 z)) (pos 0)
+      → has ≡ unsigned_abs (to_z w32 (of_z w32 most)) → has ≡ plus z
+  has_is small e h = rw (h, to_z-of_z small, e, to_z-of_z fits) (positive z)
+    where
+      positive : (x : ℤ) → unsigned_abs (int_max x (pos 0)) ≡ plus x
+      positive (pos zero) = refl
+      positive (pos (suc n)) = rw (lt-ltb 0 (suc n) (omega arith))
+      positive (negsuc n) = refl
 
-pub positive_lacks : (z : ℤ) → le_z (pos 0) z ≡ true → 0 ≡ minus z
-positive_lacks (pos n) e = refl
-positive_lacks (negsuc n) e = absurd (false≢true e)
-
-pub negative_has : (z : ℤ) → le_z (pos 0) z ≡ false → 0 ≡ plus z
-negative_has (pos n) e = absurd (omega (arith, leb-false 0 n e))
-negative_has (negsuc n) e = refl
-
-pub negative_lacks : (z : ℤ) → le_z (pos 0) z ≡ false → T (non_neg (pos 0 -ℤ z)) × (nat_abs (pos 0 -ℤ z) ≡ minus z)
-negative_lacks (pos n) e = absurd (omega (arith, leb-false 0 n e))
-negative_lacks (negsuc n) e = (tt, omega arith)
+  pub lacks_is : {least : ℤ} {lacks : ℕ} → SFits w32 least → least ≡ int_min (to_z w32 (of_z w32 z)) (pos 0)
+      → lacks ≡ unsigned_abs (to_z w32 (of_z w32 least)) → lacks ≡ minus z
+  lacks_is small e h = rw (h, to_z-of_z small, e, to_z-of_z fits) (negative z)
+    where
+      negative : (x : ℤ) → unsigned_abs (int_min x (pos 0)) ≡ minus x
+      negative (pos zero) = refl
+      negative (pos (suc n)) = rw (lt-ltb 0 (suc n) (omega arith))
+      negative (negsuc n) = refl
 
 module _ {values : ℕ → ℕ} {buffer : List ℕ} where
-  pub written_none : Written values 0 buffer buffer
-  written_none = record { there = λ i l. absurd (omega arith); past = λ i l. refl }
-
   pub written_more : {v : ℕ} {buffer' : List ℕ} → v < length buffer' → Written values v buffer buffer'
       → Written values (suc v) buffer (set buffer' v (values v))
   written_more {v} {buffer'} l w = record {
@@ -85,25 +86,6 @@ pub record Entered (p : Plan) (k : ℕ) (room : ℕ → ℕ → ℕ) (over under
   pub room_is : (x y : ℕ) → x < side → y < side → room x y ≡ widths (first k p) x y
   pub over_is : (v : ℕ) → v < p.nodes → over v ≡ plus (p.supply v) + into (first k p) p.low v
   pub under_is : (v : ℕ) → v < p.nodes → under v ≡ minus (p.supply v) + out (first k p) p.low v
-
--- no arc is entered yet: the rooms are empty, and no word shows any room
-module _ {arcs : List ℕ} {supplies : List ℤ} {rooms ways : List ℕ} (e : EmptyDesk arcs supplies rooms ways) where
-  pub empty_ways : Ways rooms ways
-  empty_ways = record {
-    rooms_whole = e.rooms_whole;
-    ways_whole = e.ways_whole;
-    shown = λ back x y lx ly. rw ((e.empty (row back x)).1, (e.empty (cell back x y)).0) (zero_holds y);
-  }
-
-  pub entered_none : {over₀ over under₀ under : List ℕ}
-      → Written (λ v. plus (get_or supplies v (pos 0))) (length supplies) over₀ over
-      → Written (λ v. minus (get_or supplies v (pos 0))) (length supplies) under₀ under
-      → Entered (plan_of arcs supplies) 0 (seen rooms false) (at over) (at under)
-  entered_none has lacks = record {
-    room_is = λ x y lx ly. (e.empty (cell false x y)).0;
-    over_is = λ v l. omega (arith, has.there v l);
-    under_is = λ v l. omega (arith, lacks.there v l);
-  }
 
 -- what is added at a place, or between two nodes, shows there and nowhere else
 added : {number number' : ℕ → ℕ} {place d : ℕ} → Less number' number place d → (i : ℕ) → number' i ≡ number i + only (eqb place i) d
@@ -172,12 +154,8 @@ module _ {p : Plan} (w : WellFormed p) {k : ℕ} (some : k ≤ p.arcs) where
       total_small p.low w.uncrossed (λ i. eqb (p.from i) v),
     )
 
--- the ends of the next arc are within the lent lists, and what it adds fits
+-- what the next arc adds fits
 module _ {p : Plan} (w : WellFormed p) {k : ℕ} (l : k < p.arcs) where
-  pub arc_ends : {over under : ℕ} → p.nodes ≤ over → p.nodes ≤ under
-      → (p.from k < side) × (p.to k < side) × (p.from k < under) × (p.to k < over)
-  arc_ends over-whole under_whole = omega (arith, w.from_node k l, w.to_node k l, w.nodes_fit)
-
   pub arc_fits : {room : ℕ → ℕ → ℕ} {over under : ℕ → ℕ} → Entered p k room over under
       → (room (p.from k) (p.to k) + (p.high k - p.low k) < 2 ^ 32)
       × (under (p.from k) + p.low k < 2 ^ 32)

@@ -2,16 +2,20 @@
 use Prim.Native.Nat.{ℕ, zero, suc}
 use mathlib.Core.Path.{◌≡◌, refl}
 use mathlib.Core.List.{List}
-use native.Mathlib.Omega.{arith}
 use lib.Dec.{lit≤}
+use Rattle.std.specs.Prelude.{Ok, Err}
 use lib.IntN.{ℤ}
-use lib.ListN.{replicate}
-use Rattle.rooms.specs.Room.{at}
-use Rattle.plan.specs.Plan.{Set, WellFormed, plan_of}
+use lib.ListN.{length, replicate}
+use mathlib.Core.Bool.{Bool}
+use Rattle.rooms.specs.Room.{at, seen, Still}
+use Rattle.ways.specs.Ways.{Desk}
+use Rattle.words.specs.Word.{holds}
+use Rattle.plan.specs.Plan.{WellFormed, plan_of}
 use Rattle.plan.specs.Shortage.{ShortBy}
 use Rattle.stand.specs.Desk.{EmptyDesk, ReadyDesk}
 use Rattle.stand.specs.Ask.{AskedOf}
-use Rattle.stand.specs.declared.Asked.TheVariants.{Balances, Lacks}
+use Rattle.stand.specs.declared.Shortage.{Shortage}
+use Rattle.stand.proofs.Standing.{still_ready, seen_still}
 
 -- a new array holds zeros
 zeros : (n i : ℕ) → at (replicate n 0) i ≡ 0
@@ -29,16 +33,22 @@ module _ {arcs : List ℕ} {supplies : List ℤ} where
     empty = λ i. (zeros 4096 i, zeros 128 i);
   }
 
-  -- what was asked is one of the two
-  module _ {rooms ways : List ℕ} {S : Set} where
-    pub told_ready : ReadyDesk arcs supplies rooms ways → AskedOf arcs supplies rooms ways Balances S
-    told_ready y = record {
-      balances = λ e. y;
-      lacks = λ value e. let clash : ◌≡◌ {A = ℕ} 0 1 = cc in absurd (omega arith);
+  module _ {rooms ways : List ℕ} where
+    -- with the same room out of every set, the plan stands ready still
+    pub still_desk : {rooms' ways' : List ℕ} → ReadyDesk arcs supplies rooms ways → (upper : Bool) → Desk (length supplies) rooms' ways'
+        → Still (length supplies) (seen rooms upper) (seen rooms' upper) → ReadyDesk arcs supplies rooms' ways'
+    still_desk {rooms'} y upper desk still = record {
+      plan = y.plan;
+      desk = desk;
+      ready = still_ready y.plan y.ready (seen_still (length supplies) rooms rooms' upper still);
     }
 
-    pub told_short : {value : ℤ} → ShortBy (plan_of arcs supplies) value S → AskedOf arcs supplies rooms ways (Lacks value) S
-    told_short {value = value} m = record {
-      balances = λ e. let clash : ◌≡◌ {A = ℕ} 0 1 = cc in absurd (omega arith);
-      lacks = λ other e. let same : value ≡ other = cc in rw same at m;
+    -- what was asked is one of the two
+    pub told_ready : ReadyDesk arcs supplies rooms ways → AskedOf arcs supplies rooms ways (Ok tt)
+    told_ready y = record { balances = λ e. y; lacks = λ s e. absurd (cc) }
+
+    pub told_short : {s : Shortage} → ShortBy (plan_of arcs supplies) s.value (holds s.set) → AskedOf arcs supplies rooms ways (Err s)
+    told_short {s = s} m = record {
+      balances = λ e. absurd (cc);
+      lacks = λ other e. let same : s ≡ other = cc in rw same at m;
     }

@@ -5,16 +5,22 @@
 pub mod ask;
 pub mod build;
 
-// Everything balances, so there is a flow; or so much lacks.
+ghost use Rattle.std.specs.Prelude.{◌≡◌};
+ghost use Rattle.plan.specs.declared.No.TheVariants.{Short};
+
+use plan::No;
+
+// So much lacks, and the set is the shortage set.
 #[derive(Clone, Copy)]
-pub enum Asked {
-    Balances,
-    Lacks(i64),
+pub struct Shortage {
+    pub value: i64,
+    pub set: u64,
 }
 
-// What asking a plan comes to; where so much lacks, the set is the shortage set.
-#[derive(Clone, Copy)]
-pub struct Outcome {
-    pub asked: Asked,
-    pub set: u64,
+impl From<Shortage> for No {
+    ghost from_gives = { λ shortage no. no ≡ Short shortage.value };
+
+    fn from(shortage: Shortage) -> No {
+        No::Short(shortage.value)
+    }
 }

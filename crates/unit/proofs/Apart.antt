@@ -11,16 +11,16 @@ use lib.IntN.{ℤ}
 use lib.ListN.{length, take}
 use lib.Seq.{length-take-le}
 use borrow.Author.Tests.{lt-ltb, ltb-true, ltb-false}
+use Rattle.std.specs.Prelude.{Ok, Err}
+use Rattle.plan.specs.declared.Fault.TheVariants.{Nodes, Arcs}
+use Rattle.plan.specs.declared.No.TheVariants.{Short, Refused}
 use Rattle.plan.specs.Limits.{most_nodes, most_arcs, arc_entries}
 use Rattle.plan.specs.Plan.{Plan, plan_of}
-use Rattle.plan.specs.Verdict.{verdict, network_rules, lent_short}
-use Rattle.plan.specs.declared.Verdict.{Verdict}
-use Rattle.plan.specs.declared.Verdict.TheVariants.{Accepted, Refused as TurnedDown}
+use Rattle.plan.specs.Verdict.{verdict, network_rules, lent_short, Verdict, Accepted, Refused as TurnedDown}
 use Rattle.flow.specs.Answer.{FlowAnswers}
-use Rattle.flow.specs.declared.Answer as flow
-use Rattle.flow.specs.declared.Answer.TheVariants.{Runs, Short, Refused}
+use Rattle.flow.specs.Answer as flow
 use Rattle.narrow.specs.Answer.{NarrowAnswers}
-use Rattle.arcs.specs.Taken.{flattened, cut_at, taken_apart, OfArcs}
+use Rattle.arcs.specs.Taken.{flattened, cut_at, taken_apart}
 use Rattle.arcs.specs.declared.Arc.{Arc}
 use Rattle.arcs.proofs.Taking.{taken_length}
 use Rattle.arcs.proofs.Flat.{flattened_length, taken_flat}
@@ -31,7 +31,7 @@ use Rattle.crossing.specs.Crossing.{Reading, Crosses}
 
 -- 1 or 2, by the node count
 abbrev counted : ℕ → Verdict
-counted nodes = cond (eqb nodes 0 || ltb most_nodes nodes) (TurnedDown 1 0) (TurnedDown 2 0)
+counted nodes = cond (eqb nodes 0 || ltb most_nodes nodes) (TurnedDown Nodes 0) (TurnedDown Arcs 0)
 
 many_judged : (p : Plan) (short : Bool) → most_arcs < p.arcs → verdict (network_rules p short) ≡ counted p.nodes
 many_judged p short many = rw (lt-ltb most_arcs p.arcs many)
@@ -39,7 +39,7 @@ many_judged p short many = rw (lt-ltb most_arcs p.arcs many)
 counted_refuses : (nodes : ℕ) → counted nodes ≡ Accepted → ⊥
 counted_refuses nodes = by (eqb nodes 0 || ltb most_nodes nodes)
   where
-    by : (t : Bool) → cond t (TurnedDown 1 0) (TurnedDown 2 0) ≡ Accepted → ⊥
+    by : (t : Bool) → cond t (TurnedDown Nodes 0) (TurnedDown Arcs 0) ≡ Accepted → ⊥
     by true e = let clash : ◌≡◌ {A = ℕ} 0 1 = cc in omega arith
     by false e = let clash : ◌≡◌ {A = ℕ} 0 1 = cc in omega arith
 
@@ -51,9 +51,9 @@ module _ (p q : Plan) (same : p.nodes ≡ q.nodes) (many : most_arcs < p.arcs) (
   alike short short' e = many_judged q short' many' ∙ ap counted (sym same) ∙ sym (many_judged p short many) ∙ e
 
   pub flow_many : {arcs nodes a n : List ℕ} (r : flow.Answer) → FlowAnswers p arcs nodes a n r → FlowAnswers q arcs nodes a n r
-  flow_many {arcs} {nodes} Runs x = absurd (refused (lent_short arcs p.arcs nodes p.nodes) x.says.0)
-  flow_many {arcs} {nodes} (Short v) x = absurd (refused (lent_short arcs p.arcs nodes p.nodes) x.says.0)
-  flow_many {arcs} {nodes} (Refused m i) x = record {
+  flow_many {arcs} {nodes} (Ok u) x = absurd (refused (lent_short arcs p.arcs nodes p.nodes) x.says.0)
+  flow_many {arcs} {nodes} (Err (Short v)) x = absurd (refused (lent_short arcs p.arcs nodes p.nodes) x.says.0)
+  flow_many {arcs} {nodes} (Err (Refused r)) x = record {
     says = (
       alike (lent_short arcs p.arcs nodes p.nodes) (lent_short arcs q.arcs nodes q.nodes) x.says.0,
       x.says.1,
@@ -64,9 +64,9 @@ module _ (p q : Plan) (same : p.nodes ≡ q.nodes) (many : most_arcs < p.arcs) (
   }
 
   pub narrow_many : {lows highs l h : List ℕ} (r : flow.Answer) → NarrowAnswers p lows highs l h r → NarrowAnswers q lows highs l h r
-  narrow_many {lows} {highs} Runs x = absurd (refused (lent_short lows p.arcs highs p.arcs) x.says.0)
-  narrow_many {lows} {highs} (Short v) x = absurd (refused (lent_short lows p.arcs highs p.arcs) x.says.0)
-  narrow_many {lows} {highs} (Refused m i) x = record {
+  narrow_many {lows} {highs} (Ok u) x = absurd (refused (lent_short lows p.arcs highs p.arcs) x.says.0)
+  narrow_many {lows} {highs} (Err (Short v)) x = absurd (refused (lent_short lows p.arcs highs p.arcs) x.says.0)
+  narrow_many {lows} {highs} (Err (Refused r)) x = record {
     says = (
       alike (lent_short lows p.arcs highs p.arcs) (lent_short lows q.arcs highs q.arcs) x.says.0,
       x.says.1,
@@ -114,9 +114,10 @@ module _ {A : Type 0} (reading : Reading A) (Answers : Plan → A → Type 0)
         all_arcs : length (flattened arcs) / arc_entries ≡ count
         all_arcs = ap (λ m. m / arc_entries) (flattened_length arcs) ∙ mul-div_cancel (length arcs) (omega arith) ∙ l
 
-  pub of_arcs : Asked used → OfArcs flat count Asked
-  of_arcs x = record { of_arcs = λ arcs l e. by arcs l e (ltb most_arcs count) refl }
+  -- what holds of the numbers in use holds of the flat list of any arcs that they were taken apart from
+  pub of_arcs : (arcs : List Arc) → length arcs ≡ count → flat ≡ taken_apart arcs (cut_at count) → Asked used → Asked (flattened arcs)
+  of_arcs arcs l e x = by (ltb most_arcs count) refl
     where
-      by : (arcs : List Arc) → length arcs ≡ count → flat ≡ taken_apart arcs (cut_at count) → (t : Bool) → ltb most_arcs count ≡ t → Asked (flattened arcs)
-      by arcs l e false few = few_arcs arcs l e x few
-      by arcs l e true many = many_arcs arcs l e x many
+      by : (t : Bool) → ltb most_arcs count ≡ t → Asked (flattened arcs)
+      by false few = few_arcs arcs l e x few
+      by true many = many_arcs arcs l e x many

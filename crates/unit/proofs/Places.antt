@@ -10,25 +10,23 @@ use lib.Dec.{leb, ltb, eqb}
 use lib.IntN.{ℤ}
 use lib.ListN.{length}
 use borrow.Author.Tests.{ltb-false}
+use Rattle.std.specs.Prelude.{Ok, Err, None, Some}
+use Rattle.plan.specs.declared.Fault.{Fault}
+use Rattle.plan.specs.declared.Fault.TheVariants.{Buffer, Missing}
+use Rattle.plan.specs.declared.No.TheVariants.{Short, Refused}
+use Rattle.plan.specs.declared.Refusal.{Refusal}
 use Rattle.plan.specs.Limits.{most_nodes, most_arcs}
 use Rattle.plan.specs.Plan.{Plan}
-use Rattle.plan.specs.Verdict.{Rule, lowest, verdict, verdict_place, whole, network_rules, asking_rules, lent_short, lists_short}
-use Rattle.plan.specs.declared.Verdict.{Verdict}
-use Rattle.plan.specs.declared.Verdict.TheVariants.{Accepted, Refused}
-use Rattle.plan.proofs.Refusals.{None, neither}
+use Rattle.plan.specs.Verdict.{Rule, lowest, verdict, verdict_place, whole, network_rules, asking_rules, lent_short, lists_short, Verdict, Refused as TurnedDown}
+use Rattle.plan.proofs.Refusals.{None as Unconcerned, neither}
 use Rattle.flow.specs.Answer as flow
 use Rattle.flow.specs.Answer.{FlowAnswers}
-use Rattle.flow.specs.declared.Answer as flow-declared
-use Rattle.flow.specs.declared.Answer.TheVariants as flow-variants
 use Rattle.narrow.specs.Answer.{NarrowAnswers}
 use Rattle.reason.specs.Answer as reason
 use Rattle.reason.specs.Answer.{ReasonAnswers}
-use Rattle.reason.specs.declared.Answer as reason-declared
-use Rattle.reason.specs.declared.Answer.TheVariants as reason-variants
 use Rattle.held.specs.Answer as held
 use Rattle.held.specs.Answer.{HeldAnswers}
-use Rattle.held.specs.declared.Answer as held-declared
-use Rattle.held.specs.declared.Answer.TheVariants as held-variants
+use Rattle.held.specs.declared.Unheld.TheVariants as held-variants
 use Rattle.counting.specs.Counting.{Counting, counting_of}
 use Rattle.counting.specs.Network.{network}
 use Rattle.counting.specs.Rules.{counting_rules}
@@ -36,32 +34,32 @@ use Rattle.count.specs.Answer.{Buffers, CountAnswers, NetworkAnswers, buffers_sh
 
 -- a verdict's place, if it has one, is below the most arcs that a plan can have
 abbrev pub Small : Verdict → Type 0
-Small Accepted = Unit {0}
-Small (Refused n i) = i < most_arcs
+Small (Ok u) = Unit {0}
+Small (Err refusal) = refusal.place < most_arcs
 
 -- each rule looks at few places, as far as none of the rules before it turns the input down
 abbrev pub Few : List Rule → Type 0
 Few [] = Unit {0}
-Few (r ∷ rules) = (r.places ≤ most_arcs) × (None r.concerns r.places → Few rules)
+Few (r ∷ rules) = (r.places ≤ most_arcs) × (Unconcerned r.concerns r.places → Few rules)
 
 -- one rule: it gives one of its places, or what comes after where it concerns none
-module _ (number : ℕ) (concerns : ℕ → Bool) where
-  pub lowest_small : (n : ℕ) (after : Verdict) → n ≤ most_arcs → (None concerns n → Small after) → Small (lowest number concerns n after)
+module _ (fault : Fault) (concerns : ℕ → Bool) where
+  pub lowest_small : (n : ℕ) (after : Verdict) → n ≤ most_arcs → (Unconcerned concerns n → Small after) → Small (lowest fault concerns n after)
   lowest_small zero after few small = small (λ i l. absurd (omega arith))
   lowest_small (suc n) after few small =
-      lowest_small n (cond (concerns n) (Refused number n) after) (omega arith) (λ none. picked (concerns n) (λ e. small (one_more none e)))
+      lowest_small n (cond (concerns n) (TurnedDown fault n) after) (omega arith) (λ none. picked (concerns n) (λ e. small (one_more none e)))
     where
-      one_more : None concerns n → concerns n ≡ false → None concerns (suc n)
+      one_more : Unconcerned concerns n → concerns n ≡ false → Unconcerned concerns (suc n)
       one_more none e i l = ⊎_elim (λ e'. rw e' e) (none i) (eq-or-lt_of_le (le_of_suc-le-suc l))
 
-      picked : (t : Bool) → (t ≡ false → Small after) → Small (cond t (Refused number n) after)
+      picked : (t : Bool) → (t ≡ false → Small after) → Small (cond t (TurnedDown fault n) after)
       picked true s = omega arith
       picked false s = s refl
 
 pub verdict_small : (rules : List Rule) → Few rules → Small (verdict rules)
 verdict_small [] few = tt
 verdict_small (r ∷ rules) few =
-    lowest_small r.number r.concerns r.places (verdict rules) few.0 (λ none. verdict_small rules (few.1 none))
+    lowest_small r.fault r.concerns r.places (verdict rules) few.0 (λ none. verdict_small rules (few.1 none))
 
 -- the rules of a network look at its arcs and nodes only where 1 and 2 found few of them
 pub network_few : (p : Plan) (short : Bool) (more : List Rule) → Few more → Few (network_rules p short ++ more)
@@ -81,11 +79,11 @@ network_small p short = verdict_small (network_rules p short) (network_few p sho
 
 pub asking_small : (p : Plan) (short missing : Bool) → Small (verdict (asking_rules p short missing))
 asking_small p short missing =
-    verdict_small (asking_rules p short missing) (network_few p short (whole 8 missing ∷ []) (omega arith, λ _. tt))
+    verdict_small (asking_rules p short missing) (network_few p short (whole Missing missing ∷ []) (omega arith, λ _. tt))
 
 -- the rules of a counting plan look at its variables and values only where 15 found few of them
 pub counting_small : (domains : List ℕ) (c : Counting) (short : Bool) → Small (counting_verdict domains c short)
-counting_small domains c short = verdict_small (counting_rules domains c ++ (whole 3 short ∷ [])) (
+counting_small domains c short = verdict_small (counting_rules domains c ++ (whole Buffer short ∷ [])) (
   omega arith,
   λ nodes.
       let few_nodes = ltb-false most_nodes (c.variables + c.values + 1) (nodes 0 (omega arith)) in
@@ -94,46 +92,46 @@ counting_small domains c short = verdict_small (counting_rules domains c ++ (who
 
 -- ---- so the place of each request's answer is small
 
-pub small_place : {v : Verdict} {n i : ℕ} → Small v → v ≡ Refused n i → i < most_arcs
+pub small_place : {v : Verdict} {r : Refusal} → Small v → v ≡ Err r → r.place < most_arcs
 small_place small e = rw e at small
 
-pub flow_place : {p : Plan} {arcs nodes a n : List ℕ} (r : flow-declared.Answer) → FlowAnswers p arcs nodes a n r → flow.place r < most_arcs
-flow_place flow-variants.Runs x = omega arith
-flow_place (flow-variants.Short v) x = omega arith
-flow_place {p} {arcs} {nodes} (flow-variants.Refused m i) x =
+pub flow_place : {p : Plan} {arcs nodes a n : List ℕ} (r : flow.Answer) → FlowAnswers p arcs nodes a n r → flow.place r < most_arcs
+flow_place (Ok u) x = omega arith
+flow_place (Err (Short v)) x = omega arith
+flow_place {p} {arcs} {nodes} (Err (Refused r)) x =
     small_place (network_small p (lent_short arcs p.arcs nodes p.nodes)) x.says.0
 
-pub narrow_place : {p : Plan} {lows highs l h : List ℕ} (r : flow-declared.Answer) → NarrowAnswers p lows highs l h r → flow.place r < most_arcs
-narrow_place flow-variants.Runs x = omega arith
-narrow_place (flow-variants.Short v) x = omega arith
-narrow_place {p} {lows} {highs} (flow-variants.Refused m i) x =
+pub narrow_place : {p : Plan} {lows highs l h : List ℕ} (r : flow.Answer) → NarrowAnswers p lows highs l h r → flow.place r < most_arcs
+narrow_place (Ok u) x = omega arith
+narrow_place (Err (Short v)) x = omega arith
+narrow_place {p} {lows} {highs} (Err (Refused r)) x =
     small_place (network_small p (lent_short lows p.arcs highs p.arcs)) x.says.0
 
-pub reason_place : {p : Plan} {arc end : ℕ} {arcs nodes a n : List ℕ} (r : reason-declared.Answer)
+pub reason_place : {p : Plan} {arc end : ℕ} {arcs nodes a n : List ℕ} (r : reason.Answer)
     → ReasonAnswers p arc end arcs nodes a n r → reason.place r < most_arcs
-reason_place reason-variants.Stands x = omega arith
-reason_place (reason-variants.Moved v) x = omega arith
-reason_place (reason-variants.Short v) x = omega arith
-reason_place {p} {arc} {end} {arcs} {nodes} (reason-variants.Refused m i) x =
+reason_place (Ok None) x = omega arith
+reason_place (Ok (Some v)) x = omega arith
+reason_place (Err (Short v)) x = omega arith
+reason_place {p} {arc} {end} {arcs} {nodes} (Err (Refused r)) x =
     small_place (asking_small p (lent_short arcs p.arcs nodes p.nodes) (reason.missing p arc end)) x.says.0
 
-pub held_place : {p : Plan} {arc count : ℕ} {arcs a : List ℕ} (r : held-declared.Answer)
+pub held_place : {p : Plan} {arc count : ℕ} {arcs a : List ℕ} (r : held.Answer)
     → HeldAnswers p arc count arcs a r → held.place r < most_arcs
-held_place held-variants.Runs x = omega arith
-held_place (held-variants.Short v) x = omega arith
-held_place held-variants.Outside x = omega arith
-held_place {p} {arc} {arcs = arcs} (held-variants.Refused m i) x =
+held_place (Ok u) x = omega arith
+held_place (Err (held-variants.Short v)) x = omega arith
+held_place (Err held-variants.Outside) x = omega arith
+held_place {p} {arc} {arcs = arcs} (Err (held-variants.Refused r)) x =
     small_place (asking_small p (ltb (length arcs) p.arcs) (leb p.arcs arc)) x.says.0
 
-pub count_place : {domains counts : List ℕ} {b b' : Buffers} (r : flow-declared.Answer)
+pub count_place : {domains counts : List ℕ} {b b' : Buffers} (r : flow.Answer)
     → CountAnswers domains counts b b' r → flow.place r < most_arcs
-count_place flow-variants.Runs x = omega arith
-count_place (flow-variants.Short v) x = omega arith
-count_place {domains} {counts} {b} (flow-variants.Refused m i) x =
+count_place (Ok u) x = omega arith
+count_place (Err (Short v)) x = omega arith
+count_place {domains} {counts} {b} (Err (Refused r)) x =
     small_place (counting_small domains (counting_of domains counts) (buffers_short (counting_of domains counts) b)) x.says.0
 
 pub count_network_place : {domains counts : List ℕ} {supplies s : List ℤ} {arcs a : List ℕ} (r : Verdict)
     → NetworkAnswers domains counts supplies arcs s a r → verdict_place r < most_arcs
-count_network_place Accepted x = omega arith
-count_network_place {domains} {counts} {supplies} {s} {arcs} (Refused m i) x =
+count_network_place (Ok u) x = omega arith
+count_network_place {domains} {counts} {supplies} {s} {arcs} (Err r) x =
     small_place (counting_small domains (counting_of domains counts) (lists_short (network (counting_of domains counts)) supplies arcs)) x.answer_is

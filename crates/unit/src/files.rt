@@ -6,6 +6,7 @@ ghost use Rattle.crossing.specs.Payload.{PayloadAnswers};
 ghost use Rattle.crossing.specs.Crossing.{Crosses, read_reading, written_reading, payload_reading};
 
 use crossing::answer::Answer;
+use plan::Network;
 use reading::payload::payload_number;
 
 // Reads a file. Number 0: supplies and arcs have the plan, the index is the node count and the value the arc
@@ -23,7 +24,7 @@ pub extern "C" fn blenrop_file_read(file: &[u8], supplies: &mut [i32], arcs: &mu
 pub extern "C" fn blenrop_file_write(arcs: &[u32], supplies: &[i32], file: &mut [u8]) -> Answer
     ensures { Crosses written_reading (WriteAnswers first_edition (plan_of arcs.now supplies.now) file.old file.new) result }
 {
-    Answer::of_written(writing::write(arcs, supplies, file))
+    Answer::of_written(writing::write(Network { arcs, supplies }, file))
 }
 
 // Where the payload of a block stands in a file. Number 0: it starts at index and is value bytes long. Any

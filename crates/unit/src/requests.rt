@@ -8,6 +8,11 @@ ghost use Rattle.held.specs.Answer.{HeldAnswers};
 ghost use Rattle.crossing.specs.Crossing.{Crosses, flow_reading, reason_reading, held_reading};
 
 use crossing::answer::Answer;
+use flow::question::question;
+use held::request::hold;
+use narrow::request::narrow;
+use plan::Network;
+use reason::request::reason;
 
 // The flow question. Number 0: the arc buffer has the first flow. Number 9: the value is the shortfall, and the buffers
 // have the marks. Any other number: the input is turned down at index, and the buffers stay.
@@ -20,7 +25,7 @@ pub extern "C" fn blenrop_flow(
 ) -> Answer
     ensures { Crosses flow_reading (FlowAnswers (plan_of arcs.now supplies.now) arc_buffer.old node_buffer.old arc_buffer.new node_buffer.new) result }
 {
-    Answer::of_flow(flow::question::question(arcs, supplies, arc_buffer, node_buffer))
+    Answer::of_flow(question(Network { arcs, supplies }, arc_buffer, node_buffer))
 }
 
 // Narrowing. Number 0: lows and highs have each arc's smallest and largest count. Number 9: the value is the shortfall,
@@ -34,7 +39,7 @@ pub extern "C" fn blenrop_narrow(
 ) -> Answer
     ensures { Crosses flow_reading (NarrowAnswers (plan_of arcs.now supplies.now) lows.old highs.old lows.new highs.new) result }
 {
-    Answer::of_flow(narrow::request::narrow(arcs, supplies, lows, highs))
+    Answer::of_flow(narrow(Network { arcs, supplies }, lows, highs))
 }
 
 // The reason for the low end (0) or the high end (1) of an arc. Number 0 and index 0: it stands. Number 0
@@ -50,7 +55,8 @@ pub extern "C" fn blenrop_reason(
 ) -> Answer
     ensures { Crosses reason_reading (ReasonAnswers (plan_of arcs.now supplies.now) arc end arc_buffer.old node_buffer.old arc_buffer.new node_buffer.new) result }
 {
-    Answer::of_reason(reason::request::reason(arcs, supplies, arc, end, arc_buffer, node_buffer))
+    let network = Network { arcs, supplies };
+    Answer::of_reason(reason(network, arc, end, arc_buffer, node_buffer))
 }
 
 // An arc held at a count. Number 0: the arc buffer has the first flow with it. Number 9: the value is the shortfall.
@@ -65,5 +71,5 @@ pub extern "C" fn blenrop_held(
 ) -> Answer
     ensures { Crosses held_reading (HeldAnswers (plan_of arcs.now supplies.now) arc count arc_buffer.old arc_buffer.new) result }
 {
-    Answer::of_held(held::request::hold(arcs, supplies, arc, count, arc_buffer))
+    Answer::of_held(hold(Network { arcs, supplies }, arc, count, arc_buffer))
 }

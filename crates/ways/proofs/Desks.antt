@@ -10,6 +10,8 @@ use lib.Dec.{ltb}
 use Rattle.rooms.specs.Room.{side, seen, Fitting, SamePairs}
 use Rattle.rooms.proofs.Cells.{seen_turned}
 use Rattle.ways.specs.Ways.{leads, Ways, Desk}
+use Rattle.ways.specs.Lent.{SameLent}
+use Rattle.ways.specs.declared.Desk.{Desk as Lent}
 
 -- the words looked at the other way
 pub ways_turned : {rooms ways : List ℕ} → Ways rooms ways → (back : Bool) (x y : ℕ) → x < side → y < side
@@ -42,3 +44,7 @@ pub desk_kept : {n : ℕ} {rooms ways rooms' ways' : List ℕ} (back : Bool) →
     → SamePairs (seen rooms back) (seen rooms' back) → Desk n rooms' ways'
 desk_kept {rooms = rooms} {rooms' = rooms'} back d w s =
     record { ways_show = w; fitting = fitting_kept d.fitting (pairs_facing rooms rooms' back s) }
+
+-- one change after another
+pub lent_on : {a b c : Lent} → SameLent a b → SameLent b c → SameLent a c
+lent_on x y = record { rooms_length = y.rooms_length ∙ x.rooms_length; ways_length = y.ways_length ∙ x.ways_length }

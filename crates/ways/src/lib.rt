@@ -2,10 +2,11 @@
 // what is moved, taken out or added goes through it. It uses `rooms` and `words`. Internal: its functions have `requires`.
 #![tactic(auto)]
 
-ghost use Rattle.std.specs.Prelude.{◌≡◌, false, ◌+◌, ◌^◌, ◌≤◌, ◌<◌, length};
+ghost use Rattle.std.specs.Prelude.{◌≡◌, false, ◌+◌, ◌*◌, ◌^◌, ◌≤◌, ◌<◌, length};
 ghost use Rattle.rooms.specs.Room.{side, seen};
 ghost use Rattle.rooms.specs.Move.{Put, Pushed, Taken};
 ghost use Rattle.ways.specs.Ways.{row, Ways, Marked};
+ghost use Rattle.ways.specs.Lent.{SameLent};
 
 use rooms::{Rooms, place, room_of};
 use words::{but, either, one};
@@ -34,11 +35,12 @@ fn mark(ways: &mut [u64], place: usize, y: usize, on: bool)
     ensures { Marked ways.old ways.new place y on }
 {
     let bit = one(y);
-    if on {
-        ways[place] = either(ways[place], bit);
+    let word = ways[place];
+    ways[place] = if on {
+        either(word, bit)
     } else {
-        ways[place] = but(ways[place], bit);
-    }
+        but(word, bit)
+    };
 }
 
 // Puts the room from x to y, and shows in the words whether there is some.
@@ -57,7 +59,8 @@ fn put(rooms: &mut [u32], ways: &mut [u64], back: bool, x: usize, y: usize, room
     mark(ways, home, x, on);
 }
 
-// Moves d from x to y: so much room from x to y becomes room from y to x.
+// Moves d from x to y: so much room from x to y becomes room from y to x. Over the two lists, since the loop along a path is
+// slower over a desk.
 pub fn push(rooms: &mut [u32], ways: &mut [u64], back: bool, x: usize, y: usize, d: u32)
     requires ways { Ways rooms.old ways.old }
     requires nodes { (x < side) × (y < side) × (x ≡ y → ⊥) }
@@ -71,26 +74,57 @@ pub fn push(rooms: &mut [u32], ways: &mut [u64], back: bool, x: usize, y: usize,
     put(rooms, ways, back, y, x, home);
 }
 
-// Takes d off the room from x to y.
-pub fn take_room(rooms: &mut [u32], ways: &mut [u64], x: usize, y: usize, d: u32)
-    requires ways { Ways rooms.old ways.old }
-    requires nodes { (x < side) × (y < side) }
-    requires fits { d ≤ seen rooms.old false x y }
-    ensures taken { Taken (seen rooms.old false) (seen rooms.new false) x y d }
-    ensures ways { Ways rooms.new ways.new }
-{
-    let there = room_of(rooms, false, x, y) - d;
-    put(rooms, ways, false, x, y, there);
+// The rooms with their words, as they are lent.
+#[derive(Drop)]
+pub struct Desk<'a> {
+    pub rooms: &'a mut [u32],
+    pub ways: &'a mut [u64],
 }
 
-// Adds d to the room from x to y: taking it off again gives what was there.
-pub fn add_room(rooms: &mut [u32], ways: &mut [u64], x: usize, y: usize, d: u32)
-    requires ways { Ways rooms.old ways.old }
-    requires nodes { (x < side) × (y < side) }
-    requires fits { seen rooms.old false x y + d < 2 ^ 32 }
-    ensures taken { Taken (seen rooms.new false) (seen rooms.old false) x y d }
-    ensures ways { Ways rooms.new ways.new }
-{
-    let there = room_of(rooms, false, x, y) + d;
-    put(rooms, ways, false, x, y, there);
+impl Desk<'_> {
+    // The room from x to y; looked at backwards, the room from y to x.
+    pub fn room(&self, back: bool, x: usize, y: usize) -> u32
+        requires { (side * side ≤ length self.now.rooms.now) × (x < side) × (y < side) }
+        ensures { result ≡ seen self.now.rooms.now back x y }
+    {
+        room_of(self.rooms, back, x, y)
+    }
+
+    // Moves d from x to y, as `push` does over the two lists.
+    pub fn push(&mut self, back: bool, x: usize, y: usize, d: u32)
+        requires ways { Ways self.old.rooms.now self.old.ways.now }
+        requires nodes { (x < side) × (y < side) × (x ≡ y → ⊥) }
+        requires fits { (d ≤ seen self.old.rooms.now back x y) × (seen self.old.rooms.now back y x + d < 2 ^ 32) }
+        ensures pushed { Pushed (seen self.old.rooms.now back) (seen self.new.rooms.now back) x y d }
+        ensures ways { Ways self.new.rooms.now self.new.ways.now }
+        ensures lent { SameLent self.old self.new }
+    {
+        push(self.rooms, self.ways, back, x, y, d);
+    }
+
+    // Takes d off the room from x to y.
+    pub fn take_room(&mut self, x: usize, y: usize, d: u32)
+        requires ways { Ways self.old.rooms.now self.old.ways.now }
+        requires nodes { (x < side) × (y < side) }
+        requires fits { d ≤ seen self.old.rooms.now false x y }
+        ensures taken { Taken (seen self.old.rooms.now false) (seen self.new.rooms.now false) x y d }
+        ensures ways { Ways self.new.rooms.now self.new.ways.now }
+        ensures lent { SameLent self.old self.new }
+    {
+        let there = self.room(false, x, y) - d;
+        put(self.rooms, self.ways, false, x, y, there);
+    }
+
+    // Adds d to the room from x to y: taking it off again gives what was there.
+    pub fn add_room(&mut self, x: usize, y: usize, d: u32)
+        requires ways { Ways self.old.rooms.now self.old.ways.now }
+        requires nodes { (x < side) × (y < side) }
+        requires fits { seen self.old.rooms.now false x y + d < 2 ^ 32 }
+        ensures taken { Taken (seen self.new.rooms.now false) (seen self.old.rooms.now false) x y d }
+        ensures ways { Ways self.new.rooms.now self.new.ways.now }
+        ensures lent { SameLent self.old self.new }
+    {
+        let there = self.room(false, x, y) + d;
+        put(self.rooms, self.ways, false, x, y, there);
+    }
 }

@@ -4,7 +4,8 @@
 
 ghost use Rattle.std.specs.Prelude.{◌≡◌, not, ◌&&◌, ◌||◌, ℕ, ◌≤◌, ◌<◌, eqb};
 ghost use Rattle.numbers.specs.Sums.{only};
-ghost use Rattle.words.specs.Word.{word_bits, holds, SplitOf};
+ghost use Rattle.std.specs.Iterator.{at_most};
+ghost use Rattle.words.specs.Word.{word_bits, holds, SplitOf, NextOf};
 
 // 1 for y in a set, 0 for y outside.
 pub fn bit(word: u64, y: usize) -> u64
@@ -66,4 +67,25 @@ pub fn take_first(word: u64) -> Split
     let first = u64::trailing_zeros(word) as usize;
     let rest = word & (word - 1);
     Split { first, rest }
+}
+
+// The numbers of a set, one by one from the least: for x in Members(set).
+#[derive(Drop)]
+pub struct Members(pub u64);
+
+impl Iterator for Members {
+    type Item = usize;
+
+    ghost next_gives = { λ s r t. NextOf s.0 r t.0 };
+
+    ghost remaining = { λ s. at_most s.0 };
+
+    fn next(&mut self) -> Option<usize> {
+        if self.0 == 0 {
+            return None;
+        }
+        let split = take_first(self.0);
+        self.0 = split.rest;
+        Some(split.first)
+    }
 }

@@ -1,23 +1,12 @@
 -- The loop prints an arc a turn.
-use Prim.Native.Nat.{◌/◌}
-use mathlib.Core.Path.{◌≡◌}
-use lib.ListN.{length}
-use Rattle.text.proofs.Printing.{none_printed, next_printable, next_printed}
-use Rattle.plan.specs.Limits.{arc_entries}
-use native.Mathlib.Omega.{arith}
-use borrow.Author.Rules.{rules}
+use Rattle.text.proofs.Printing.{none_printed, next_printable, next_printed_on}
 use Rattle.lines.proofs.print_arcs.Goals as goal
 
 pub loop-k-init : goal.loop-k-init
-loop-k-init c = (omega arith, none_printed _)
+loop-k-init c = none_printed _
 
-pub print_arc-next-requires : goal.print_arc-next-requires
-print_arc-next-requires c = rw c.arc_at.ensures (next_printable _ _ c.requires.page c.loop-k-test.true c.loop-k.invariant.1)
+pub print_arc-requires : goal.print_arc-requires
+print_arc-requires c = rw c.at.ensures (next_printable _ _ c.requires.page c.loop-k-test.true c.loop-k.invariant)
 
 pub loop-k-preserved : goal.loop-k-preserved
-loop-k-preserved c = (search rules, next_printed _ c.loop-k.invariant.1 (rw c.arc_at.ensures at c.print_arc-next.ensures))
-
-pub returns : goal.returns
-returns c =
-    let all : c.loop-k.k ≡ length c.args.arcs.now / arc_entries = omega arith in
-    rw all at c.loop-k.invariant.1
+loop-k-preserved c = next_printed_on _ c.loop-k.invariant (rw c.at.ensures at c.print_arc.ensures)

@@ -1,11 +1,7 @@
--- An arc past the last is left out: before it the marks of a low end are those of a "no".
-use Rattle.words.specs.Word.{holds}
-use Rattle.plan.specs.Plan.{plan_of}
-use Rattle.lists.proofs.Writing.{written_alike}
-use Rattle.marks.proofs.Marking.{low_marks_before}
+-- Each entry is the rule's, which is the mark.
+use Rattle.std.proofs.Common.{rules}
+use Rattle.lists.proofs.Writing.{written_by}
 use Rattle.marks.proofs.mark_arcs.Goals as goal
 
 pub returns : goal.returns
-returns c =
-    let a = c.args in
-    written_alike (low_marks_before (plan_of a.arcs.now a.supplies.now) (holds a.set) _) c.mark_arcs_for.ensures
+returns c = written_by (rw c.size.ensures.1 at (c.write_first.ensures 0)) (λ i x l p. search rules)

@@ -1,14 +1,12 @@
 -- Each new level has nodes that were not reached yet, so there are at most as many levels as nodes.
-use mathlib.Core.Path.{◌≡◌}
-use lib.ListN.{length}
 use Prim.Native.Nat.{◌-◌}
 use Rattle.rooms.specs.Room.{side}
 use Rattle.ways.specs.Ways.{leads}
 use Rattle.reach.proofs.Layering.{Seeking}
 use Rattle.reach.proofs.search.Given as goal
 
-abbrev pub invariant-loop-met : goal.invariant-loop-met
-invariant-loop-met l = (length l.levels ≡ length l.initial.levels) × Seeking (leads l.ways l.back) l.u l.v l.start l.goal l.levels l.depth l.front l.reached
+abbrev pub invariant-loop-back : goal.invariant-loop-back
+invariant-loop-back l = Seeking (leads l.ways l.back) l.u l.v l.start l.goal l.levels l.depth l.front l.reached
 
-abbrev pub decreases-loop-met : goal.decreases-loop-met
-decreases-loop-met l = side - l.depth
+abbrev pub decreases-loop-back : goal.decreases-loop-back
+decreases-loop-back l = side - l.depth

@@ -3,8 +3,5 @@ use Rattle.ways.specs.Ways.{leads}
 use Rattle.reach.proofs.Layering.{Widening}
 use Rattle.reach.proofs.widen.Given as goal
 
-abbrev pub invariant-loop-rest : goal.invariant-loop-rest
-invariant-loop-rest l = Widening (leads l.ways l.back) l.u l.v l.front l.rest l.next
-
-abbrev pub decreases-loop-rest : goal.decreases-loop-rest
-decreases-loop-rest l = l.rest
+abbrev pub invariant-loop-x : goal.invariant-loop-x
+invariant-loop-x l = Widening (leads l.ways l.back) l.u l.v l.front l.x-iterator.0 l.next

@@ -1,4 +1,5 @@
 -- Block 0 is the head.
+use borrow.Author.Rules.{rules}
 use lib.IntN.{pos}
 use mir.Syntax.{w32}
 use mir.Facts.{to_z-of_z}
@@ -11,21 +12,21 @@ use Rattle.format.proofs.Places.{inside_head, inside_arcs}
 use native.Mathlib.Omega.{arith}
 use Rattle.writing.proofs.content_byte.Goals as goal
 
-pub bounds-supplies-j : goal.bounds-supplies-j
-bounds-supplies-j c =
+pub bounds-network-j : goal.bounds-network-j
+bounds-network-j c =
     let a = c.args in
-    omega (arith, inside_head first_edition (length a.supplies.now) (length a.arcs.now / 4) a.b a.j c.requires.place.1 c.if-b-eq0.true)
+    omega (arith, inside_head first_edition (length a.network.supplies.now) (length a.network.arcs.now / 4) a.b a.j c.requires.place.1 c.if-b-eq0.true)
 
 pub returns-then-b-eq0 : goal.returns-then-b-eq0
 returns-then-b-eq0 c =
     let a = c.args in
-    let supply = get_or a.supplies.now (a.j / 4) (pos 0) in
-    c.digit.ensures ∙ rw (c.unsigned-supply.ensures, to_z-of_z {w = w32} {z = supply} (record { sfits = c.unsigned-arg-1.given }), eq-eqb a.b 0 c.if-b-eq0.true)
+    let supply = get_or a.network.supplies.now (a.j / 4) (pos 0) in
+    c.digit.ensures ∙ rw (c.unsigned-supply.ensures, to_z-of_z {w = w32} {z = supply} (record { sfits = search rules }), eq-eqb a.b 0 c.if-b-eq0.true)
 
 pub record_byte-requires : goal.record_byte-requires
 record_byte-requires c =
     let a = c.args in
-    let inside = inside_arcs first_edition (length a.supplies.now) (length a.arcs.now / 4) a.b a.j c.requires.place.1 c.if-b-eq0.false in
+    let inside = inside_arcs first_edition (length a.network.supplies.now) (length a.network.arcs.now / 4) a.b a.j c.requires.place.1 c.if-b-eq0.false in
     record {
       plan = c.requires.plan;
       place = (omega (arith, inside), omega arith);

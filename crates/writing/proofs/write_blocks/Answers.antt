@@ -1,7 +1,7 @@
 -- Block after block of the network's file stands.
 use Prim.Native.Nat.{◌+◌, ◌*◌}
 use mathlib.Core.Path.{◌≡◌, refl, ◌∙◌}
-use Rattle.plan.specs.Plan.{plan_of}
+use Rattle.plan.specs.Plan.{meant}
 use Rattle.lists.proofs.Entries.{entries_none}
 use native.Mathlib.Omega.{arith}
 use Rattle.writing.proofs.write_blocks.Goals as goal
@@ -15,7 +15,7 @@ loop-b-preserved c =
     let inv = c.loop-b.invariant in (
       omega arith,
       c.write_check.auto.file ∙ c.write_body.auto.file ∙ inv.1,
-      c.write_check.ensures (plan_of a.arcs.now a.supplies.now) a.file.now (c.write_body.ensures a.file.now inv.2),
+      c.write_check.ensures (meant a.network) a.file.now (c.write_body.ensures a.file.now inv.2),
     )
 
 pub returns : goal.returns

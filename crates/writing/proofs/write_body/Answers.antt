@@ -2,7 +2,7 @@
 use Prim.Native.Nat.{◌+◌, ◌*◌}
 use mathlib.Core.Path.{◌≡◌, refl, ◌∙◌}
 use lib.ListN.{length-set}
-use Rattle.plan.specs.Plan.{plan_of}
+use Rattle.plan.specs.Plan.{meant}
 use Rattle.format.specs.Format.{first_edition, check_at}
 use Rattle.lists.proofs.Entries.{entries_on}
 use Rattle.format.proofs.Places.{at_body}
@@ -18,7 +18,7 @@ bounds-file-b c = omega (arith, c.loop-i.invariant.1, c.loop-i-test.true, c.requ
 pub loop-i-preserved : goal.loop-i-preserved
 loop-i-preserved c =
     let a = c.args in
-    let p = plan_of a.arcs.now a.supplies.now in
+    let p = meant a.network in
     let i = c.loop-i.i in
     let inv = c.loop-i.invariant in
     let next : a.b * 512 + (i + 1) ≡ a.b * 512 + i + 1 = omega arith in (

@@ -1,17 +1,17 @@
--- Each round keeps the room out of every set and brings the direct room nearer to the width; left at the width, all of it is free, and
--- left without a way, the direct room is.
-use mathlib.Core.Path.{◌≡◌}
+-- Each round keeps the room out of every set and brings the direct room nearer to the width; left at the width,
+-- all of it is free, and left without a way, the direct room is.
 use Prim.Native.Nat.{◌-◌}
-use lib.ListN.{length}
 use Rattle.rooms.specs.Room.{seen, Still}
 use Rattle.ways.specs.Ways.{Desk}
+use Rattle.ways.specs.Lent.{SameLent}
 use Rattle.across.specs.Round.{Bounded}
 use Rattle.across.proofs.round.widen.Given as goal
 
 abbrev pub invariant-loop-back : goal.invariant-loop-back
 invariant-loop-back l =
-    (length l.rooms ≡ length l.initial.rooms) × (length l.ways ≡ length l.initial.ways) × Desk l.n l.rooms l.ways × Still l.n (seen l.initial.rooms l.back) (seen l.rooms l.back)
-    × Bounded (seen l.initial.rooms l.back l.a l.b) (seen l.rooms l.back l.a l.b) l.width
+    Desk l.n l.desk.rooms.now l.desk.ways.now × Still l.n (seen l.initial.desk.rooms.now l.back) (seen l.desk.rooms.now l.back)
+    × Bounded (seen l.initial.desk.rooms.now l.back l.a l.b) (seen l.desk.rooms.now l.back l.a l.b) l.width
+    × SameLent l.initial.desk l.desk
 
 abbrev pub decreases-loop-back : goal.decreases-loop-back
-decreases-loop-back l = l.width - seen l.rooms l.back l.a l.b
+decreases-loop-back l = l.width - seen l.desk.rooms.now l.back l.a l.b

@@ -1,11 +1,7 @@
 -- The least room of the steps so far, step by step.
-use Prim.Native.Nat.{◌-◌, ◌≤◌}
 use Rattle.rooms.specs.Room.{at, seen}
 use Rattle.engine.specs.Path.{LeastOf}
 use Rattle.engine.proofs.path.least.Given as goal
 
 abbrev pub invariant-loop-i : goal.invariant-loop-i
-invariant-loop-i l = (l.i ≤ l.depth) × LeastOf (seen l.rooms l.back) (at l.path) l.i l.most l.r
-
-abbrev pub decreases-loop-i : goal.decreases-loop-i
-decreases-loop-i l = l.depth - l.i
+invariant-loop-i l = LeastOf (seen l.rooms l.back) (at l.path) l.i l.most l.r

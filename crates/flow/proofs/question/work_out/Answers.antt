@@ -2,9 +2,5 @@
 use Rattle.stand.proofs.Desks.{new_desk}
 use Rattle.flow.proofs.question.work_out.Goals as goal
 
-pub work_out_on-requires : goal.work_out_on-requires
-work_out_on-requires c =
-    record {
-      desk = new_desk c.requires.plan;
-      whole = c.requires.whole;
-    }
+pub ask-requires : goal.ask-requires
+ask-requires c = new_desk c.requires.plan

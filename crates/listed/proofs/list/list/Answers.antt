@@ -4,57 +4,41 @@ use lib.Seq.{length-take-le}
 use Rattle.listed.proofs.Fitting.{refused_fits}
 use Rattle.listed.proofs.Listed.{nodes_fit, arcs_fit, read_well_formed, read_listing, refused_listing}
 use native.Mathlib.Omega.{arith}
-use borrow.Author.Rules.{rules}
-use mir.Syntax.{w32, w64}
-use mir.Val.{Fits}
+use Rattle.std.proofs.lemmas.Grind.{common_steps}
 use Rattle.listed.proofs.list.list.Goals as goal
-
-pub overflow_mul-entries : goal.overflow_mul-entries
-overflow_mul-entries c =
-    let said = rw c.in-Read.is at c.read.ensures in
-    record { fits = omega (arith, arcs_fit (omega arith) (omega arith) said) }
+use Rattle.listed.proofs.list.list.Goals.{in-Ok, in-Err}
 
 pub slice_bounds-arcs-end : goal.slice_bounds-arcs-end
-slice_bounds-arcs-end c =
-    let said = rw c.in-Read.is at c.read.ensures in
-    omega (arith, arcs_fit (omega arith) (omega arith) said)
+slice_bounds-arcs-end c = arcs_fit (omega arith) (omega arith) c.in-Ok.ensures
 
-pub slice_bounds-list_plan-end-in-Read : goal.slice_bounds-list_plan-end-in-Read
-slice_bounds-list_plan-end-in-Read c =
-    let said = rw c.in-Read.is at c.read.ensures in
-    sym (length-take-le _ _ (omega (arith, c.read.auto.arcs, arcs_fit (omega arith) (omega arith) said)))
+pub slice_bounds-network-end : goal.slice_bounds-network-end
+slice_bounds-network-end c = sym (length-take-le _ _ (arcs_fit (omega arith) (omega arith) c.in-Ok.ensures))
 
 pub slice_bounds-supplies-end : goal.slice_bounds-supplies-end
-slice_bounds-supplies-end c =
-    let said = rw c.in-Read.is at c.read.ensures in
-    omega (arith, nodes_fit (omega arith) (omega arith) said)
+slice_bounds-supplies-end c = nodes_fit (omega arith) (omega arith) c.in-Ok.ensures
 
-pub slice_bounds-list_plan-end-in-Read-2 : goal.slice_bounds-list_plan-end-in-Read-2
-slice_bounds-list_plan-end-in-Read-2 c =
-    let said = rw c.in-Read.is at c.read.ensures in
-    sym (length-take-le _ _ (omega (arith, c.read.auto.supplies, nodes_fit (omega arith) (omega arith) said)))
+pub slice_bounds-network-end-in-Ok : goal.slice_bounds-network-end-in-Ok
+slice_bounds-network-end-in-Ok c = sym (length-take-le _ _ (nodes_fit (omega arith) (omega arith) c.in-Ok.ensures))
 
-pub list_plan-requires : goal.list_plan-requires
-list_plan-requires c =
-    let said = rw c.in-Read.is at c.read.ensures in
-    (record {
-      page = search rules;
-      plan = read_well_formed (omega arith) (omega arith) said;
-    })
+pub list_plan-requires-clause-plan : goal.list_plan-requires-clause-plan
+list_plan-requires-clause-plan c = read_well_formed (omega arith) (omega arith) c.in-Ok.ensures
 
 pub print_refused-requires : goal.print_refused-requires
-print_refused-requires c =
-    let number : Fits w32 c.in-Refused.number = search rules in
-    let index : Fits w64 c.in-Refused.index = search rules in
-    record { fits = omega (arith, refused_fits c.in-Refused.number c.in-Refused.index (omega arith) (omega arith)) }
+print_refused-requires c = grind (arith, common_steps, refused_fits)
 
-pub returns-in-Read : goal.returns-in-Read
-returns-in-Read c =
-    let said = rw c.in-Read.is at c.read.ensures in
-    let done = c.list_plan.ensures in
-    record { text = done.text; meant = read_listing (omega arith) (omega arith) said done.meant; printed = done.printed }
-
-pub returns-in-Refused : goal.returns-in-Refused
-returns-in-Refused c =
-    let said = rw c.in-Refused.is at c.read.ensures in
-    record { text = _; meant = refused_listing (omega arith) (omega arith) said; printed = c.print_refused.ensures }
+pub returns : goal.returns
+returns c = elim c.match-read.branch [
+  | in-Ok w ↦
+      let done = w.list_plan.ensures in
+      rw w.page-is (record {
+        text = done.text;
+        meant = read_listing (omega arith) (omega arith) w.in-Ok.ensures done.meant;
+        printed = done.printed.printed;
+      })
+  | in-Err w ↦
+      rw w.page-is (record {
+        text = _;
+        meant = refused_listing (omega arith) (omega arith) w.in-Err.ensures;
+        printed = rw (← w.number.ensures) w.print_refused.ensures.printed;
+      })
+]

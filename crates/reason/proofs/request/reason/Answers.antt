@@ -1,31 +1,26 @@
--- The check's verdict is the definition's, and what is worked out of an accepted request is what it is told.
-use mathlib.Core.Path.{refl, ◌∙◌}
-use Rattle.plan.specs.Plan.{plan_of}
-use Rattle.reason.proofs.Answering.{request_verdict, request_accepted, told_says}
+-- What the check accepts is well-formed, and the arc is there.
+use mathlib.Core.Path.{◌≡◌, sym, ◌∙◌}
+use mathlib.Core.Bool.{false}
+use borrow.Author.Rules.{rules}
+use Rattle.plan.specs.Plan.{meant}
+use Rattle.plan.specs.declared.Fault.TheVariants.{Missing}
+use Rattle.plan.specs.Verdict.{verdict, network_rules, Accepted}
+use Rattle.plan.proofs.Refusals.{last_accepted, accepted_well_formed}
 use Rattle.reason.proofs.request.reason.Goals as goal
+use Rattle.reason.proofs.request.reason.Goals.{In_ok-check_asked, then-size-k, else-size-k}
 
-pub returns-in-Refused : goal.returns-in-Refused
-returns-in-Refused c =
-    let a = c.args in
-    let p = plan_of a.arcs.now a.supplies.now in
-    record {
-      says = (request_verdict p a.arc a.end a.arc_buffer.now a.node_buffer.now c.of-size.ensures.1 c.of-size.ensures.0 c.too_short-short.ensures c.missing.ensures c.check_asked-verdict.ensures ∙ c.in-Refused.is, refl, refl);
-      arcs_length = refl;
-      nodes_length = refl;
-    }
+accepted : (c : In_ok-check_asked)
+    → (verdict (network_rules (meant c.args.network) c.too_short-short.result) ≡ Accepted) × (c.if-size-k.missing ≡ false)
+accepted c =
+    let rules = network_rules (meant c.args.network) c.too_short-short.result in
+    last_accepted rules Missing c.if-size-k.missing (sym c.check_asked.ensures ∙ c.in_ok-check_asked.was)
 
-pub work_out-requires : goal.work_out-requires
-work_out-requires c =
-    let a = c.args in
-    let p = plan_of a.arcs.now a.supplies.now in
-    let all = request_accepted p a.arc a.end a.arc_buffer.now a.node_buffer.now (request_verdict p a.arc a.end a.arc_buffer.now a.node_buffer.now c.of-size.ensures.1 c.of-size.ensures.0 c.too_short-short.ensures c.missing.ensures c.check_asked-verdict.ensures ∙ c.in_default.is) in record { plan = all.0; arc = all.1.0; whole = all.1.1 }
+pub work_out-requires-clause-plan : goal.work_out-requires-clause-plan
+work_out-requires-clause-plan c =
+    let on = accepted (goal.at.work_out-requires-clause-plan c).In_ok-check_asked in
+    accepted_well_formed (meant c.args.network) c.too_short-short.result on.0
 
-pub returns : goal.returns
-returns c =
-    let a = c.args in
-    let p = plan_of a.arcs.now a.supplies.now in
-    record {
-      says = told_says p a.arc a.end a.arc_buffer.now a.node_buffer.now c.work_out.new.arc_buffer c.work_out.new.node_buffer c.work_out.result (request_verdict p a.arc a.end a.arc_buffer.now a.node_buffer.now c.of-size.ensures.1 c.of-size.ensures.0 c.too_short-short.ensures c.missing.ensures c.check_asked-verdict.ensures ∙ c.in_default.is) c.work_out.ensures;
-      arcs_length = c.work_out.auto.arc_buffer;
-      nodes_length = c.work_out.auto.node_buffer;
-    }
+pub work_out-requires-clause-arc : goal.work_out-requires-clause-arc
+work_out-requires-clause-arc c =
+    let there = (accepted (goal.at.work_out-requires-clause-arc c).In_ok-check_asked).1 in
+    elim c.if-size-k.branch [ then-size-k w ↦ search rules | else-size-k w ↦ search rules ]

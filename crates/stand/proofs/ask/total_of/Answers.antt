@@ -1,35 +1,19 @@
--- The total is the sum so far, and at most 2^32 for each number passed.
-use lib.IntN.{pos}
-use mir.ValLaws.{to_z_pos}
+-- Each number is below 2^32 and there are at most 64, so the sum fits.
+use Rattle.std.proofs.Common.{rules, arith, ◌≡◌, ◌∙◌, ap, pos, sum, ◌<◌, ◌^◌}
 use mir.Syntax.{w64}
-use native.Mathlib.Numerals.{add-one}
-use mathlib.Core.Path.{◌≡◌, refl, ap, ◌∙◌}
-use Prim.Native.Nat.{◌^◌, ◌<◌}
-use native.Mathlib.Omega.{arith}
+use mir.ValLaws.{to_z_pos}
+use Rattle.stand.proofs.Asking.{total_small}
 use Rattle.stand.proofs.ask.total_of.Goals as goal
+use Rattle.stand.proofs.ask.total_of.Goals.{After-sum}
 
-pub loop-v-init : goal.loop-v-init
-loop-v-init c = (omega arith, refl, omega arith)
+summed : (c : After-sum) → c.sum.result ≡ sum c.args.numbers.now
+summed c = search rules
 
-pub overflow_cast-total : goal.overflow_cast-total
-overflow_cast-total c = record { fits = omega (arith, c.shared_slice_known-1.given c.loop-v.v) }
+small : (c : After-sum) → c.sum.result < 2 ^ 63
+small c = omega (arith, summed c, total_small c.args.numbers.now c.requires c.type_inv.numbers)
 
-pub overflow_add-total : goal.overflow_add-total
-overflow_add-total c = record { fits = omega (arith, c.shared_slice_known-1.given c.loop-v.v, c.loop-v.invariant.2, c.requires.0) }
-
-pub loop-v-smaller : goal.loop-v-smaller
-loop-v-smaller c = omega arith
-
-pub loop-v-preserved : goal.loop-v-preserved
-loop-v-preserved c =
-    rw add-one (
-      omega arith,
-      omega (arith, c.loop-v.invariant.1),
-      omega (arith, c.loop-v.invariant.2, c.shared_slice_known-1.given c.loop-v.v),
-    )
+pub overflow_cast-result : goal.overflow_cast-result
+overflow_cast-result c = omega (arith, small (goal.at.overflow_cast-result c).After-sum)
 
 pub returns : goal.returns
-returns c =
-    let small : c.loop-v.total < 2 ^ 63 = omega (arith, c.loop-v.invariant.2, c.requires.0) in
-    let all : c.loop-v.v ≡ c.args.n = omega arith in
-    to_z_pos w64 c.loop-v.total small ∙ ap pos (rw all at c.loop-v.invariant.1)
+returns c = to_z_pos w64 c.sum.result (small c) ∙ ap pos (summed c)

@@ -1,5 +1,4 @@
--- The loop's invariant: the nodes passed have their parts written, the lists are as long as they were. A turn writes one node's.
-use Prim.Native.Nat.{◌-◌, ◌≤◌}
+-- The nodes passed have their parts written. A turn writes one node's.
 use mathlib.Core.Path.{◌≡◌}
 use lib.IntN.{pos}
 use lib.ListN.{length, get_or}
@@ -9,9 +8,6 @@ use Rattle.stand.proofs.build.enter_supplies.Given as goal
 
 abbrev pub invariant-loop-v : goal.invariant-loop-v
 invariant-loop-v l =
-    (l.v ≤ length l.supplies) × (length l.over ≡ length l.initial.over) × (length l.under ≡ length l.initial.under)
+    (length l.over ≡ length l.initial.over) × (length l.under ≡ length l.initial.under)
     × Written (λ i. plus (get_or l.supplies i (pos 0))) l.v l.initial.over l.over
     × Written (λ i. minus (get_or l.supplies i (pos 0))) l.v l.initial.under l.under
-
-abbrev pub decreases-loop-v : goal.decreases-loop-v
-decreases-loop-v l = length l.supplies - l.v

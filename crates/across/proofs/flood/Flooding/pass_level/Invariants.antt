@@ -1,0 +1,10 @@
+-- One node after the other keeps every account.
+use Rattle.ways.specs.Ways.{Desk}
+use Rattle.ways.specs.Lent.{SameLent}
+use Rattle.across.specs.Flood.{Goes}
+use Rattle.across.proofs.flood.Flooding.pass_level.Given as goal
+
+abbrev pub invariant-loop-x : goal.invariant-loop-x
+invariant-loop-x l =
+    Desk l.self.n l.desk.rooms.now l.desk.ways.now × Goes l.initial.self l.self l.initial.desk.rooms.now l.desk.rooms.now
+    × SameLent l.initial.desk l.desk

@@ -1,8 +1,0 @@
--- Numbers within a file are not negative in 64 bits.
-use mir.Facts.{to_z_pos}
-use mir.Syntax.{w64}
-use borrow.Author.Rules.{rules}
-use Rattle.crossing.proofs.answer.Answer.told.Goals as goal
-
-pub returns : goal.returns
-returns c = rw (to_z_pos w64 {n = c.args.value} (search rules))
