@@ -2,3 +2,4 @@ pub mod Unique
 pub mod OneFile
 pub mod RoundTrip
 pub mod Worked
+pub mod Fitting

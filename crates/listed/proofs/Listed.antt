@@ -30,7 +30,7 @@ use Rattle.plan.specs.declared.Refusal.{Refusal}
 use Rattle.plan.specs.Verdict.{verdict, whole as whole_rule, limit_rules, lists_short, Verdict, number_of}
 use Rattle.plan.proofs.Alike.{alike_back, alike_well_formed}
 use Rattle.plan.proofs.Refusals.{accepted_or_refused, before_refused}
-use Rattle.plan.proofs.Checked.{well_formed_judged, both_long, lists_fit}
+use Rattle.plan.proofs.Checked.{well_formed_judged, both_long}
 use Rattle.plan.proofs.Unique.{short_or_flow}
 use Rattle.lists.proofs.Same.{written_plan}
 use Rattle.flow.specs.Answer.{Answer, Lacking, FlowAnswers}
@@ -38,8 +38,9 @@ use Rattle.narrow.specs.Answer.{NarrowAnswers}
 use Rattle.format.specs.Format.{Edition}
 use Rattle.format.specs.Held.{held}
 use Rattle.blocks.specs.Rules.{block_rules, reading_rules}
-use Rattle.blocks.proofs.Accepted.{blocks_accepted, reading_accepted, reading_well_formed}
+use Rattle.blocks.proofs.Accepted.{blocks_accepted, reading_well_formed}
 use Rattle.file.specs.Answer.{ReadAnswers}
+use Rattle.file.proofs.Fitting.{nodes_fit, arcs_fit}
 use Rattle.lines.specs.Lines.{size_line, refused_line, none_line, member, set_line, cited_line}
 use Rattle.lines.specs.Rows.{marked}
 use Rattle.listed.specs.Listing.{arc_of, arc_lines, cited_lines, no_text, page_size, PlanListing, Marked, VerdictListing, Listing}
@@ -168,20 +169,12 @@ module _ {e : Edition} {file : List ℕ} {supplies supplies' : List ℤ} {arcs a
   }
 
   module _ {size : Size} (said : ReadAnswers e file supplies supplies' arcs arcs' (Ok size)) where
-    fits : ((held e file).nodes ≤ length supplies) × ((held e file).arcs * arc_entries ≤ length arcs)
-    fits = lists_fit (held e file) supplies arcs
-        (reading_accepted e file (lists_short (held e file) supplies arcs) said.says.0).1
-
-    pub nodes_fit : size.nodes ≤ length supplies'
-    nodes_fit = omega (arith, said.says.1, said.says.3.same_length, fits.0)
-
-    pub arcs_fit : size.arcs * arc_entries ≤ length arcs'
-    arcs_fit = omega (arith, said.says.2, said.says.4.same_length, fits.1)
-
     same : SamePlan (plan_of (take (size.arcs * arc_entries) arcs') (take size.nodes supplies')) (held e file)
-    same = rw (said.says.1, said.says.2) (written_plan
-        (rw said.says.2 at said.says.4) (rw said.says.1 at said.says.3)
-        (omega (arith, said.says.4.same_length, fits.1)) (omega (arith, said.says.3.same_length, fits.0)))
+    same =
+        let long : size.arcs * arc_entries ≤ length arcs' = arcs_fit said in
+        let wide : size.nodes ≤ length supplies' = nodes_fit said in
+        rw (said.says.1, said.says.2) (written_plan
+        (rw said.says.2 at said.says.4) (rw said.says.1 at said.says.3) (rw said.says.2 at long) (rw said.says.1 at wide))
 
     pub read_well_formed : WellFormed (plan_of (take (size.arcs * arc_entries) arcs') (take size.nodes supplies'))
     read_well_formed =

@@ -1,7 +1,7 @@
 -- The plan that was read fits the lists that were lent.
 use Rattle.std.proofs.Common.{sym}
 use lib.Seq.{length-take-le}
-use Rattle.listing.proofs.Fitting.{nodes_fit, arcs_fit}
+use Rattle.file.proofs.Fitting.{nodes_fit, arcs_fit}
 use Rattle.listing.proofs.list.Goals as goal
 
 pub slice_bounds-arcs-end : goal.slice_bounds-arcs-end

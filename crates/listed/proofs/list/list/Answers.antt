@@ -2,23 +2,24 @@
 use mathlib.Core.Path.{sym}
 use lib.Seq.{length-take-le}
 use Rattle.listed.proofs.Fitting.{refused_fits}
-use Rattle.listed.proofs.Listed.{nodes_fit, arcs_fit, read_well_formed, read_listing, refused_listing}
+use Rattle.file.proofs.Fitting.{nodes_fit, arcs_fit}
+use Rattle.listed.proofs.Listed.{read_well_formed, read_listing, refused_listing}
 use native.Mathlib.Omega.{arith}
 use Rattle.std.proofs.lemmas.Grind.{common_steps}
 use Rattle.listed.proofs.list.list.Goals as goal
 use Rattle.listed.proofs.list.list.Goals.{in-Ok, in-Err}
 
 pub slice_bounds-arcs-end : goal.slice_bounds-arcs-end
-slice_bounds-arcs-end c = arcs_fit (omega arith) (omega arith) c.in-Ok.ensures
+slice_bounds-arcs-end c = arcs_fit c.in-Ok.ensures
 
 pub slice_bounds-network-end : goal.slice_bounds-network-end
-slice_bounds-network-end c = sym (length-take-le _ _ (arcs_fit (omega arith) (omega arith) c.in-Ok.ensures))
+slice_bounds-network-end c = sym (length-take-le _ _ (arcs_fit c.in-Ok.ensures))
 
 pub slice_bounds-supplies-end : goal.slice_bounds-supplies-end
-slice_bounds-supplies-end c = nodes_fit (omega arith) (omega arith) c.in-Ok.ensures
+slice_bounds-supplies-end c = nodes_fit c.in-Ok.ensures
 
 pub slice_bounds-network-end-in-Ok : goal.slice_bounds-network-end-in-Ok
-slice_bounds-network-end-in-Ok c = sym (length-take-le _ _ (nodes_fit (omega arith) (omega arith) c.in-Ok.ensures))
+slice_bounds-network-end-in-Ok c = sym (length-take-le _ _ (nodes_fit c.in-Ok.ensures))
 
 pub list_plan-requires-clause-plan : goal.list_plan-requires-clause-plan
 list_plan-requires-clause-plan c = read_well_formed (omega arith) (omega arith) c.in-Ok.ensures
