@@ -11,11 +11,9 @@ pub record Drawn (n : ℕ) (room : ℕ → ℕ → ℕ) (lack : ℕ → ℕ) (ro
 -- of a flood under way nothing but the numbers of what comes and can come change
 pub record Stays (f f' : Flooding) : Type 0 where
   pub same_n : f'.n ≡ f.n
-  pub same_back : f'.back ≡ f.back
   pub same_lack : f'.lack ≡ f.lack
 
--- it goes on: it is looked at the same way, and what lacks is moved on
-pub record Goes (f f' : Flooding) (rooms rooms' : List ℕ) : Type 0 where
+-- it goes on, looked at one way: what lacks is moved on
+pub record Goes (back : Bool) (f f' : Flooding) (rooms rooms' : List ℕ) : Type 0 where
   pub same_n : f'.n ≡ f.n
-  pub same_back : f'.back ≡ f.back
-  pub drawn : Drawn f.n (seen rooms f.back) (at f.lack) (seen rooms' f.back) (at f'.lack)
+  pub drawn : Drawn f.n (seen rooms back) (at f.lack) (seen rooms' back) (at f'.lack)

@@ -168,7 +168,7 @@ fn go_far(
 
 // Goes round once more for a pair after so many rounds: brings some of `most` from a to b besides the direct step, and straight
 // back.
-pub fn advance(
+fn go_on(
     desk: &mut ways::Desk,
     back: bool,
     n: usize,
@@ -189,6 +189,27 @@ pub fn advance(
     } else {
         go_far(desk, back, n, a, b, most)
     }
+}
+
+// Goes round once more, as `go_on` does, for a loop over lanes: most ends stand at once, and the loop is laid out for those.
+#[cold]
+pub fn advance(
+    desk: &mut ways::Desk,
+    back: bool,
+    n: usize,
+    a: usize,
+    b: usize,
+    most: u32,
+    rounds: u32,
+) -> Result<(), u64>
+    requires desk { Desk n desk.old.rooms.now desk.old.ways.now }
+    requires nodes { TwoNodes n a b }
+    requires most { (0 < most) × (most ≤ seen desk.old.rooms.now back b a) }
+    ensures desk { Desk n desk.new.rooms.now desk.new.ways.now }
+    ensures round { WentRound n false (seen desk.old.rooms.now back) (seen desk.new.rooms.now back) a b (turned result) (in_the_way result) }
+    ensures lent { SameLent desk.old desk.new }
+{
+    go_on(desk, back, n, a, b, most, rounds)
 }
 
 // How much of a width is free from a to b: goes round, by floods after a few rounds, until the direct room is as wide, or a set
@@ -214,7 +235,7 @@ pub fn measure(
         if width <= there {
             return Passage::whole(width);
         }
-        if let Err(set) = advance(desk, back, n, a, b, width - there, rounds) {
+        if let Err(set) = go_on(desk, back, n, a, b, width - there, rounds) {
             return Passage { free: there, set };
         }
         rounds = rounds.saturating_add(1);

@@ -27,11 +27,21 @@ pub fn in_use(count: usize) -> usize
     cut(count) * Arc::ENTRIES
 }
 
+// Takes the arcs of a list apart into a room, whatever it held. This is not inlined: that way the list stands once on the stack
+// of an entry, in the array that the entry hands on.
+#[inline(never)]
+fn take_into(flat: &mut [u32; ROOM], arcs: &[Arc])
+    ensures { flat.new ≡ taken_apart arcs.now (cut_at (length arcs.now)) }
+{
+    *flat = [0; ROOM];
+    write_arcs(flat, 0, cut(arcs.len()), |i| arcs[i]);
+}
+
 // The flat list of the arcs, followed by zeros.
 pub fn take_apart(arcs: &[Arc]) -> [u32; ROOM]
     ensures { result ≡ taken_apart arcs.now (cut_at (length arcs.now)) }
 {
     let mut flat = [0; ROOM];
-    write_arcs(&mut flat, 0, cut(arcs.len()), |i| arcs[i]);
+    take_into(&mut flat, arcs);
     flat
 }

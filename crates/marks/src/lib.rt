@@ -44,16 +44,6 @@ fn enters(arc: Arc, set: u64) -> bool
     !has(set, arc.from as usize) && has(set, arc.to as usize)
 }
 
-// The mark of arc j for a "no": the highs of the arcs that leave the set count, and the lows of those that enter it.
-fn no_mark(network: Network, set: u64, j: usize) -> u32
-    requires plan { WellFormed (meant network) }
-    requires arc { j < length network.arcs.now / arc_entries }
-    ensures { result ≡ no_marks (meant network.entry) (holds set) j }
-{
-    let arc = network.arc(j);
-    cite(arc, leaves(arc, set), enters(arc, set))
-}
-
 // The mark of arc j for the reason of an end of arc k: of its high end if `upper`, else of its low end. The arcs that
 // leave the set count at the one end, those that enter it at the other; k itself is left out.
 fn end_mark(network: Network, set: u64, k: usize, upper: bool, j: usize) -> u32
@@ -78,7 +68,8 @@ pub fn mark_nodes(set: u64, n: usize, buffer: &mut [u8])
     write_first(buffer, n, |v| bit(set, v) as u8);
 }
 
-// Writes the mark of each arc for the reason of an end of arc k: of its high end if `upper`, else of its low end.
+// Writes the mark of each arc for the reason of an end of arc k: of its high end if `upper`, else of its low end. Where k is no
+// arc, none is left out.
 pub fn mark_arcs_for(network: Network, set: u64, k: usize, upper: bool, buffer: &mut [u32])
     requires plan { WellFormed (meant network) }
     requires whole { length network.arcs.now / arc_entries ≤ length buffer.old }
@@ -95,5 +86,6 @@ pub fn mark_arcs(network: Network, set: u64, buffer: &mut [u32])
     requires whole { length network.arcs.now / arc_entries ≤ length buffer.old }
     ensures { Written (no_marks (meant network.entry) (holds set)) (length network.entry.arcs.now / arc_entries) buffer.old buffer.new }
 {
-    write_first(buffer, network.size().arcs, |j| no_mark(network, set, j));
+    let no_arc = network.size().arcs;
+    mark_arcs_for(network, set, no_arc, false, buffer);
 }

@@ -1,7 +1,6 @@
 // An end of the narrowed range of an arc of a network: at once, or one step after the other. The plan stands ready before
 // and after. Internal.
-ghost use Rattle.std.specs.Prelude.{◌≡◌, false, ℕ, ◌*◌, ◌-◌, ◌≤◌, ◌<◌, ◌/◌, List, ℤ, length, min};
-ghost use Rattle.rooms.specs.Room.{side, seen};
+ghost use Rattle.std.specs.Prelude.{◌≡◌, ℕ, ◌<◌, ◌/◌, List, ℤ, length};
 ghost use Rattle.ways.specs.Lent.{SameLent};
 ghost use Rattle.plan.specs.Limits.{arc_entries};
 ghost use Rattle.plan.specs.Plan.{plan_of, meant};
@@ -12,7 +11,6 @@ ghost use Rattle.one_arc.specs.Standing.{lacking};
 use crate::counts::{either, end_at, end_of};
 use across::round::advance;
 use plan::{Arc, Network};
-use rooms::room_of;
 use ways::Desk;
 
 // The smallest count of arc k over all flows, or with `upper` the largest.
@@ -26,18 +24,6 @@ pub fn end_for(network: Network, k: usize, upper: bool, desk: &mut Desk) -> u32
     let n = network.supplies.len();
     let arc = network.arc(k);
     end_of(desk, upper, n, arc)
-}
-
-// How much of an arc's width is free as the rooms stand: at most the direct room; of a self-loop all.
-fn free_now(desk: &Desk, upper: bool, a: usize, b: usize, width: u32) -> u32
-    requires { (side * side ≤ length desk.now.rooms.now) × (a < side) × (b < side) }
-    ensures all { b ≡ a → result ≡ width }
-    ensures direct { (b ≡ a → ⊥) → result ≡ min width (seen desk.now.rooms.now upper a b) }
-{
-    if a == b {
-        return width;
-    }
-    width.min(room_of(desk.rooms, upper, a, b))
 }
 
 // The end that arc k was given: its low, or with `upper` its high.
@@ -73,8 +59,11 @@ pub fn step_for(network: Network, k: usize, upper: bool, desk: &mut Desk, rounds
     let from = arc.from as usize;
     let to = arc.to as usize;
     let width = arc.high - arc.low;
-    let there = free_now(desk, upper, from, to, width);
-    if there == width {
+    if from == to {
+        return Step::Stands;
+    }
+    let there = desk.room(upper, from, to);
+    if width <= there {
         return Step::Stands;
     }
     let n = network.supplies.len();

@@ -146,16 +146,13 @@ module _ {way : ℕ → ℕ → Bool} {u v start goal : ℕ} {levels : List ℕ}
         (λ g. g)
         (s.clear x e)
 
-    pub seek_end : next ≡ 0 → Missed way u v start goal (at levels) reached
+    pub seek_end : next ≡ 0 → Missed way u v start goal (at levels) depth reached
     seek_end empty = record {
-      layered = (
-        depth,
-        record {
-          layers = s.layers;
-          depth_fits = omega (arith, s.count, size_le reached);
-          met_is = λ y. rw s.top (zero_holds y ∙ sym (none_met y) ∙ eh y);
-        },
-      );
+      layered = record {
+        layers = s.layers;
+        depth_fits = omega (arith, s.count, size_le reached);
+        met_is = λ y. rw s.top (zero_holds y ∙ sym (none_met y) ∙ eh y);
+      };
       all_reached = record {
         starts_in = s.starts_in;
         closed = λ x y inside o. ⊎_elim (λ f. fresh x y f o) (λ d. d y o) (s.done x inside);

@@ -3,6 +3,7 @@ use Rattle.std.specs.Prelude.{ℕ, ◌+◌, ◌≤◌, ◌<◌, ◌≡◌, Bool,
 use Rattle.rooms.specs.Room.{side}
 use Rattle.words.specs.Word.{holds}
 use Rattle.reach.specs.declared.Found.{Found}
+use Rattle.reach.specs.declared.Spread.{Spread}
 
 -- a way leads from x to y, and the step is not shut
 pub record Open (way : ℕ → ℕ → Bool) (u v x y : ℕ) : Type 0 where
@@ -41,15 +42,15 @@ pub record Met (way : ℕ → ℕ → Bool) (u v start goal : ℕ) (levels : ℕ
   pub none_before : (i y : ℕ) → i < depth → holds (levels i) y ≡ true → holds goal y ≡ false
 
 -- the reach of the starts, in which none of the goal is, with layers of which the last meets nothing
-pub record Missed (way : ℕ → ℕ → Bool) (u v start goal : ℕ) (levels : ℕ → ℕ) (reached : ℕ) : Type 0 where
-  pub layered : (depth : ℕ) × Layered way u v start goal levels depth 0
+pub record Missed (way : ℕ → ℕ → Bool) (u v start goal : ℕ) (levels : ℕ → ℕ) (depth reached : ℕ) : Type 0 where
+  pub layered : Layered way u v start goal levels depth 0
   pub all_reached : Reached way u v start (holds reached)
   pub clear : (x : ℕ) → holds reached x ≡ true → holds goal x ≡ false
 
 -- what a search leaves: layers, and in the last of them what was looked for; or the reach of the starts, in which none of it is
-abbrev pub Sought : (ℕ → ℕ → Bool) → ℕ → ℕ → ℕ → ℕ → (ℕ → ℕ) → Result Found ℕ → Type 0
+abbrev pub Sought : (ℕ → ℕ → Bool) → ℕ → ℕ → ℕ → ℕ → (ℕ → ℕ) → Result Found Spread → Type 0
 Sought way u v start goal levels (Ok found) = Met way u v start goal levels found.depth found.met
-Sought way u v start goal levels (Err reached) = Missed way u v start goal levels reached
+Sought way u v start goal levels (Err spread) = Missed way u v start goal levels spread.depth spread.reached
 
 -- nodes one after the other, each with a step to the next, none of them twice
 pub record Path (way : ℕ → ℕ → Bool) (u v start goal : ℕ) (levels path : ℕ → ℕ) (depth : ℕ) : Type 0 where

@@ -13,7 +13,7 @@ use rooms::Rooms;
 use ways::word_at;
 use words::{Members, both, but, either, one, take_first};
 
-// The last level of a search, and what of the goal it meets.
+// The last level of a search that met some of the goal, and what of it.
 #[derive(Clone, Copy)]
 pub struct Found {
     pub depth: usize,
@@ -26,6 +26,21 @@ impl Found {
 
     // A path through the levels, and the step from its end.
     pub const PATH: usize = Found::LEVELS;
+}
+
+// The last level of a search that met nothing of the goal, and all that it reached.
+#[derive(Clone, Copy)]
+pub struct Spread {
+    pub depth: usize,
+    pub reached: u64,
+}
+
+impl From<Spread> for u64 {
+    ghost from_gives = { λ spread set. set ≡ spread.reached };
+
+    fn from(spread: Spread) -> u64 {
+        spread.reached
+    }
 }
 
 // Where steps lead from x, without the direct step from u to v.
@@ -52,7 +67,7 @@ fn widen(ways: &[u64], back: bool, u: usize, v: usize, front: u64) -> u64
 }
 
 // Searches from the starts for the goal, without the direct step from u to v; with u at 64 or beyond, none is shut. If none of
-// the goal is met, the error is all that was reached.
+// the goal is met, the error says how far the search went and all that was reached.
 pub fn search(
     ways: &[u64],
     back: bool,
@@ -61,7 +76,7 @@ pub fn search(
     start: u64,
     goal: u64,
     levels: &mut [u64],
-) -> Result<Found, u64>
+) -> Result<Found, Spread>
     requires { (side + side ≤ length ways.now) × (u < side → v < side) × (side < length levels.old) }
     ensures { Sought (leads ways.now back) u v start goal (at levels.new) result }
 {
@@ -69,19 +84,20 @@ pub fn search(
     let mut depth = 0;
     let mut front = start;
     let mut reached = start;
-    loop {
+    let met = loop {
         let met = both(front, goal);
         if 0 < met {
-            return Ok(Found { depth, met });
+            break met;
         }
         front = but(widen(ways, back, u, v, front), reached);
         if front == 0 {
-            return Err(reached);
+            return Err(Spread { depth, reached });
         }
         depth += 1;
         levels[depth] = front;
         reached = either(reached, front);
-    }
+    };
+    Ok(Found { depth, met })
 }
 
 // Writes down a path through the levels to a node of the last one; it is walked from its end back.

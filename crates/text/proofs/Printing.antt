@@ -148,4 +148,5 @@ module _ (of : ℕ → Text) where
 
     pub next_printed_on : {page' page'' : Page} {i : ℕ} → PrintedOn (texts i of) page page' → PrintedOn (of i) page' page''
         → PrintedOn (texts (i + 1) of) page page''
-    next_printed_on {i = i} first second = rw (texts_next i) (then_printed_on first second)
+    next_printed_on first second =
+        record { printed = next_printed first.printed second.printed; same_loan = second.same_loan ∙ first.same_loan }

@@ -20,7 +20,7 @@ use Rattle.plan.specs.Verdict.{verdict, network_rules, lent_short, Verdict, Acce
 use Rattle.flow.specs.Answer.{FlowAnswers}
 use Rattle.flow.specs.Answer as flow
 use Rattle.narrow.specs.Answer.{NarrowAnswers}
-use Rattle.arcs.specs.Taken.{flattened, cut_at, taken_apart}
+use Rattle.arcs.specs.Taken.{flattened, cut_at, taken_apart, OfArcs}
 use Rattle.arcs.specs.declared.Arc.{Arc}
 use Rattle.arcs.proofs.Taking.{taken_length}
 use Rattle.arcs.proofs.Flat.{flattened_length, taken_flat}
@@ -114,10 +114,9 @@ module _ {A : Type 0} (reading : Reading A) (Answers : Plan → A → Type 0)
         all_arcs : length (flattened arcs) / arc_entries ≡ count
         all_arcs = ap (λ m. m / arc_entries) (flattened_length arcs) ∙ mul-div_cancel (length arcs) (omega arith) ∙ l
 
-  -- what holds of the numbers in use holds of the flat list of any arcs that they were taken apart from
-  pub of_arcs : (arcs : List Arc) → length arcs ≡ count → flat ≡ taken_apart arcs (cut_at count) → Asked used → Asked (flattened arcs)
-  of_arcs arcs l e x = by (ltb most_arcs count) refl
+  pub of_arcs : Asked used → OfArcs flat count Asked
+  of_arcs x = record { of_arcs = λ arcs l e. by arcs l e (ltb most_arcs count) refl }
     where
-      by : (t : Bool) → ltb most_arcs count ≡ t → Asked (flattened arcs)
-      by false few = few_arcs arcs l e x few
-      by true many = many_arcs arcs l e x many
+      by : (arcs : List Arc) → length arcs ≡ count → flat ≡ taken_apart arcs (cut_at count) → (t : Bool) → ltb most_arcs count ≡ t → Asked (flattened arcs)
+      by arcs l e false few = few_arcs arcs l e x few
+      by arcs l e true many = many_arcs arcs l e x many

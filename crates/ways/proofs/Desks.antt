@@ -47,4 +47,9 @@ desk_kept {rooms = rooms} {rooms' = rooms'} back d w s =
 
 -- one change after another
 pub lent_on : {a b c : Lent} → SameLent a b → SameLent b c → SameLent a c
-lent_on x y = record { rooms_length = y.rooms_length ∙ x.rooms_length; ways_length = y.ways_length ∙ x.ways_length }
+lent_on x y = record {
+  rooms_length = y.rooms_length ∙ x.rooms_length;
+  ways_length = y.ways_length ∙ x.ways_length;
+  same_rooms = y.same_rooms ∙ x.same_rooms;
+  same_ways = y.same_ways ∙ x.same_ways;
+}

@@ -35,12 +35,12 @@ fn mark(ways: &mut [u64], place: usize, y: usize, on: bool)
     ensures { Marked ways.old ways.new place y on }
 {
     let bit = one(y);
-    let word = ways[place];
-    ways[place] = if on {
-        either(word, bit)
+    // Two stores: what follows would wait for the room where the word were chosen by it.
+    if on {
+        ways[place] = either(ways[place], bit);
     } else {
-        but(word, bit)
-    };
+        ways[place] = but(ways[place], bit);
+    }
 }
 
 // Puts the room from x to y, and shows in the words whether there is some.

@@ -9,7 +9,7 @@ use native.Mathlib.Omega.{arith}
 use Rattle.first_flow.proofs.first_flow.Goals as goal
 
 pub loop-i-init : goal.loop-i-init
-loop-i-init c = (refl, c.requires.desk, λ p listed w y. first_begins y, record { rooms_length = refl; ways_length = refl })
+loop-i-init c = (refl, c.requires.desk, λ p listed w y. first_begins y, record { rooms_length = refl; ways_length = refl; same_rooms = refl; same_ways = refl })
 
 pub loop-i-preserved : goal.loop-i-preserved
 loop-i-preserved c =

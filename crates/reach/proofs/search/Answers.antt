@@ -7,14 +7,14 @@ use Rattle.reach.proofs.Layering.{seek_more, seek_end, seek_met, seek_short}
 use Rattle.reach.proofs.search.Goals as goal
 use Rattle.reach.proofs.search.Goals.{Else-front-eq0}
 
-pub returns-then-met-gt0 : goal.returns-then-met-gt0
-returns-then-met-gt0 c = seek_met c.loop-back.invariant c.both-met.result c.both-met.ensures c.if-met-gt0.true
+pub returns : goal.returns
+returns c = seek_met c.loop-met.invariant c.both-met.result c.both-met.ensures c.if-met-gt0.true
 
 pub returns-then-front-eq0 : goal.returns-then-front-eq0
-returns-then-front-eq0 c = seek_end c.loop-back.invariant c.both-met.result c.both-met.ensures c.if-met-gt0.false c.widen.ensures c.but-front.result c.but-front.ensures c.if-front-eq0.true
+returns-then-front-eq0 c = seek_end c.loop-met.invariant c.both-met.result c.both-met.ensures c.if-met-gt0.false c.widen.ensures c.but-front.result c.but-front.ensures c.if-front-eq0.true
 
-short : (c : Else-front-eq0) → c.loop-back.depth < side
-short c = seek_short c.loop-back.invariant c.both-met.result c.both-met.ensures c.if-met-gt0.false c.widen.ensures c.but-front.result c.but-front.ensures (omega arith) c.if-front-eq0.false
+short : (c : Else-front-eq0) → c.loop-met.depth < side
+short c = seek_short c.loop-met.invariant c.both-met.result c.both-met.ensures c.if-met-gt0.false c.widen.ensures c.but-front.result c.but-front.ensures (omega arith) c.if-front-eq0.false
 
 pub overflow_add-depth : goal.overflow_add-depth
 overflow_add-depth c = record { fits = omega (arith, short (goal.at.overflow_add-depth c).Else-front-eq0) }
@@ -25,9 +25,9 @@ offset_bounds-levels-depth c = record { fits = omega (arith, short (goal.at.offs
 pub bounds-levels-depth : goal.bounds-levels-depth
 bounds-levels-depth c = omega (arith, short (goal.at.bounds-levels-depth c).Else-front-eq0, length-set {A = ℕ})
 
-pub loop-back-smaller : goal.loop-back-smaller
-loop-back-smaller c = omega (arith, short (goal.at.loop-back-smaller c).Else-front-eq0)
+pub loop-met-smaller : goal.loop-met-smaller
+loop-met-smaller c = omega (arith, short (goal.at.loop-met-smaller c).Else-front-eq0)
 
-pub loop-back-preserved : goal.loop-back-preserved
-loop-back-preserved c = seek_more c.loop-back.invariant c.both-met.result c.both-met.ensures c.if-met-gt0.false c.widen.ensures c.but-front.result c.but-front.ensures (omega arith) c.if-front-eq0.false
-    c.either-reached.result c.either-reached.ensures (omega (arith, short (goal.at.loop-back-preserved c).Else-front-eq0, length-set {A = ℕ}))
+pub loop-met-preserved : goal.loop-met-preserved
+loop-met-preserved c = seek_more c.loop-met.invariant c.both-met.result c.both-met.ensures c.if-met-gt0.false c.widen.ensures c.but-front.result c.but-front.ensures (omega arith) c.if-front-eq0.false
+    c.either-reached.result c.either-reached.ensures (omega (arith, short (goal.at.loop-met-preserved c).Else-front-eq0, length-set {A = ℕ}))

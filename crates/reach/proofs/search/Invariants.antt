@@ -5,8 +5,8 @@ use Rattle.ways.specs.Ways.{leads}
 use Rattle.reach.proofs.Layering.{Seeking}
 use Rattle.reach.proofs.search.Given as goal
 
-abbrev pub invariant-loop-back : goal.invariant-loop-back
-invariant-loop-back l = Seeking (leads l.ways l.back) l.u l.v l.start l.goal l.levels l.depth l.front l.reached
+abbrev pub invariant-loop-met : goal.invariant-loop-met
+invariant-loop-met l = Seeking (leads l.ways l.back) l.u l.v l.start l.goal l.levels l.depth l.front l.reached
 
-abbrev pub decreases-loop-back : goal.decreases-loop-back
-decreases-loop-back l = side - l.depth
+abbrev pub decreases-loop-met : goal.decreases-loop-met
+decreases-loop-met l = side - l.depth

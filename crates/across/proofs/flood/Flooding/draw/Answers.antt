@@ -12,12 +12,12 @@ returns c =
     let f = a.self.now in
     let desk = c.requires.desk in
     let nodes = c.requires.nodes in
-    let some = (fitting_facing a.desk.now.rooms.now f.back desk.fitting).inside a.x a.y nodes.0 nodes.1
+    let some = (fitting_facing a.desk.now.rooms.now a.back desk.fitting).inside a.x a.y nodes.0 nodes.1
     (omega (arith, c.if-d-eq0.false, c.due-d.ensures.room)) in
     let drawn = drawn_push (at f.lack) _ _ desk.fitting.few some.0 some.1 c.if-x-y.false
     c.push.ensures.pushed c.take.ensures c.add.ensures in
     record {
-      desk = desk_kept f.back desk c.push.ensures.ways drawn.same;
-      goes = record { same_n = refl; same_back = refl; drawn = drawn };
+      desk = desk_kept a.back desk c.push.ensures.ways drawn.same;
+      goes = record { same_n = refl; drawn = drawn };
       lent = c.push.ensures.lent;
     }

@@ -6,5 +6,5 @@ use Rattle.across.proofs.flood.Flooding.pass_back.Given as goal
 
 abbrev pub invariant-loop-i : goal.invariant-loop-i
 invariant-loop-i l =
-    Desk l.self.n l.desk.rooms.now l.desk.ways.now × Goes l.initial.self l.self l.initial.desk.rooms.now l.desk.rooms.now
+    Desk l.self.n l.desk.rooms.now l.desk.ways.now × Goes l.back l.initial.self l.self l.initial.desk.rooms.now l.desk.rooms.now
     × SameLent l.initial.desk l.desk

@@ -6,5 +6,5 @@ use Rattle.across.proofs.flood.Flooding.pass_level.Given as goal
 
 abbrev pub invariant-loop-x : goal.invariant-loop-x
 invariant-loop-x l =
-    Desk l.self.n l.desk.rooms.now l.desk.ways.now × Goes l.initial.self l.self l.initial.desk.rooms.now l.desk.rooms.now
-    × SameLent l.initial.desk l.desk
+    Desk l.self.n l.near.rooms.now l.near.ways.now × Goes l.back l.initial.self l.self l.initial.near.rooms.now l.near.rooms.now
+    × SameLent l.initial.near l.near

@@ -1,7 +1,7 @@
 -- Each arc is the list's, as many as are taken.
 use Rattle.std.proofs.Common.{length, rules}
 use Rattle.arcs.proofs.Taking.{cut_within, taken_only}
-use Rattle.arcs.proofs.take_apart.Goals as goal
+use Rattle.arcs.proofs.take_into.Goals as goal
 
 pub returns : goal.returns
 returns c =

@@ -1,12 +1,11 @@
 -- What is asked is the request over the numbers in use, and that is the request over the arcs.
-use mathlib.Core.Path.{refl}
 use Rattle.flow.specs.Answer.{FlowAnswers}
 use Rattle.crossing.specs.Crossing.{flow_reading}
 use Rattle.unit.proofs.Apart.{of_arcs, flow_many}
-use Rattle.unit.proofs.structs.blenrop_flow_arcs.Goals as goal
+use Rattle.unit.proofs.structs.flow_over.Goals as goal
 
 pub returns : goal.returns
 returns c =
     of_arcs flow_reading (λ p. FlowAnswers p _ _ _ _) (λ p q same many many'. flow_many p q same many many')
-    c.take_apart-flat.result _ c.args.supplies.now _ c.args.arcs.now refl c.take_apart-flat.ensures
+    c.args.flat c.args.count c.args.supplies.now _
     (rw c.in_use-used.ensures at c.blenrop_flow.ensures)
