@@ -35,12 +35,8 @@ fn mark(ways: &mut [u64], place: usize, y: usize, on: bool)
     ensures { Marked ways.old ways.new place y on }
 {
     let bit = one(y);
-    // Two stores: what follows would wait for the room where the word were chosen by it.
-    if on {
-        ways[place] = either(ways[place], bit);
-    } else {
-        ways[place] = but(ways[place], bit);
-    }
+    let shown = if on { bit } else { 0 };
+    ways[place] = either(but(ways[place], bit), shown);
 }
 
 // Puts the room from x to y, and shows in the words whether there is some.
