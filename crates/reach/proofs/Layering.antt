@@ -17,7 +17,7 @@ use Rattle.numbers.proofs.Sums.{sum_le, sum_change, put_there, put_cases, put_el
 use Rattle.rooms.specs.Room.{side, at}
 use Rattle.words.specs.Word.{holds, SplitOf}
 use Rattle.words.proofs.Bits.{zero_holds, some_holds, past_holds, same_word, first_taken}
-use Rattle.reach.specs.Search.{Open, Widened, Reached, Layers, Layered, Met, Missed, Path}
+use Rattle.reach.specs.Search.{Open, Widened, Reached, Layers, Layered, Met, Missed, LastLevel, Path}
 
 -- ---- where steps lead
 
@@ -229,6 +229,18 @@ module _ {way : ℕ → ℕ → Bool} {u v start goal : ℕ} {levels : List ℕ}
                 (old_in z)
                 (λ e. new_in z (en z ∙ true_both (holds wide z) _ (w.all x z f o) (true_not (holds reached z) e)))
                 (true_or_false (holds reached z))
+
+-- after the last level that was reached the next is
+pub last_next : (levels : List ℕ) {depth reached next reached' : ℕ} → LastLevel (at levels) depth reached → (next ≡ 0 → ⊥)
+    → ((z : ℕ) → holds reached' z ≡ holds reached z || holds next z) → depth + 1 < length levels
+    → LastLevel (at (set levels (depth + 1) next)) (depth + 1) reached'
+last_next levels {depth} {reached} {next} s some es l = record {
+  all_in = λ x e. ⊎_elim
+      (λ old. let f = s.all_in x old in (f.0, omega (arith, f.1), rw (get_or-set_other levels (depth + 1) f.0 next 0 (λ e. omega (arith, f.1))) f.2))
+      (λ new. (depth + 1, omega arith, rw (get_or-set_same levels (depth + 1) next 0 l) new))
+      (either_true (holds reached x) (holds next x) (sym (es x) ∙ e));
+  some = λ h. rw (get_or-set_same levels (depth + 1) next 0 l) (omega arith);
+}
 
 -- what is met lies in the last level and in the goal
 pub met_there : {way : ℕ → ℕ → Bool} {u v start goal depth met : ℕ} {levels : ℕ → ℕ} → Layered way u v start goal levels depth met

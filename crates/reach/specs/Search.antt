@@ -47,6 +47,11 @@ pub record Missed (way : ℕ → ℕ → Bool) (u v start goal : ℕ) (levels : 
   pub all_reached : Reached way u v start (holds reached)
   pub clear : (x : ℕ) → holds reached x ≡ true → holds goal x ≡ false
 
+-- a level is the last that was reached: all that was reached is in the levels up to it, and it has a node, unless it is the starts'
+pub record LastLevel (levels : ℕ → ℕ) (depth reached : ℕ) : Type 0 where
+  pub all_in : (x : ℕ) → holds reached x ≡ true → (i : ℕ) × (i ≤ depth) × (holds (levels i) x ≡ true)
+  pub some : 0 < depth → 0 < levels depth
+
 -- what a search leaves: layers, and in the last of them what was looked for; or the reach of the starts, in which none of it is
 abbrev pub Sought : (ℕ → ℕ → Bool) → ℕ → ℕ → ℕ → ℕ → (ℕ → ℕ) → Result Found Spread → Type 0
 Sought way u v start goal levels (Ok found) = Met way u v start goal levels found.depth found.met

@@ -3,11 +3,11 @@
 // Internal: its functions have `requires`.
 #![tactic(auto)]
 
-ghost use Rattle.std.specs.Prelude.{◌≡◌, true, not, ℕ, ◌+◌, ◌≤◌, ◌<◌, length};
+ghost use Rattle.std.specs.Prelude.{◌≡◌, true, not, ℕ, ◌+◌, ◌≤◌, ◌<◌, length, IfErr};
 ghost use Rattle.words.specs.Word.{holds};
 ghost use Rattle.rooms.specs.Room.{side, at};
 ghost use Rattle.ways.specs.Ways.{leads};
-ghost use Rattle.reach.specs.Search.{Open, Widened, Layers, Sought, Path};
+ghost use Rattle.reach.specs.Search.{Open, Widened, Layers, Sought, LastLevel, Path};
 
 use rooms::Rooms;
 use ways::word_at;
@@ -78,7 +78,8 @@ pub fn search(
     levels: &mut [u64],
 ) -> Result<Found, Spread>
     requires { (side + side ≤ length ways.now) × (u < side → v < side) × (side < length levels.old) }
-    ensures { Sought (leads ways.now back) u v start goal (at levels.new) result }
+    ensures sought { Sought (leads ways.now back) u v start goal (at levels.new) result }
+    ensures last { IfErr result (λ spread. LastLevel (at levels.new) spread.depth spread.reached) }
 {
     levels[0] = start;
     let mut depth = 0;

@@ -11,7 +11,7 @@ pub returns-in_err-found-clause-none : goal.returns-in_err-found-clause-none
 returns-in_err-found-clause-none c =
     let a = c.args in
     let nodes = c.requires.nodes in
-    let s = c.in_err-found.ensures in
+    let s = c.in_err-found.ensures.sought in
     let p = err_from_is_err_and c.from_residual.result c.from_residual.ensures.1 in
     rw (p.1, p.2) (way_none (leads a.desk.now.ways.now a.back) (leads a.desk.now.ways.now (not a.back)) a.a a.b c.one-start.result
     c.but-goal.result nodes.0 nodes.1 nodes.2 c.requires.turned c.one-start.ensures (rw c.word_at.ensures.0 at c.but-goal.ensures)
@@ -22,7 +22,7 @@ returns-clause-found c =
     let a = c.args in
     let nodes = c.requires.nodes in
     let f = c.in_ok-found.found in
-    let s = c.in_ok-found.ensures in
+    let s = c.in_ok-found.ensures.sought in
     let l = s.layered in (
       way_found (leads a.desk.now.ways.now a.back) (leads a.desk.now.ways.now (not a.back)) a.a a.b c.one-start.result
           c.but-goal.result nodes.0 nodes.1 nodes.2 c.requires.turned c.one-start.ensures
