@@ -252,6 +252,30 @@ pub reached_unique : {way : ℕ → ℕ → Bool} {u v start : ℕ} (s t : ℕ) 
 reached_unique s t r q = same_word s t (λ y. same_truth (holds s y) (holds t y)
     (r.least (holds t) q.starts_in q.closed y) (q.least (holds s) r.starts_in r.closed y))
 
+-- what lies in a layer is reached
+layer_reached : {way : ℕ → ℕ → Bool} {u v start : ℕ} {levels : ℕ → ℕ} {depth : ℕ} {S : ℕ → Bool} → Layers way u v start levels depth
+    → Reached way u v start S → (i y : ℕ) → i ≤ depth → holds (levels i) y ≡ true → S y ≡ true
+layer_reached s r zero y h e = r.starts_in y (rw s.first at e)
+layer_reached {levels = levels} s r (suc i) y h e =
+    let f = s.found i y (omega arith) (subst (λ k. holds (levels k) y ≡ true) (omega arith) e) in
+    r.closed f.0 y (layer_reached s r i f.0 (omega arith) f.2) f.3
+
+-- no layer after the last level has a node
+none_after : {way : ℕ → ℕ → Bool} {u v start reached a b : ℕ} {levels : ℕ → ℕ} → levels b < 2 ^ 64 → Reached way u v start (holds reached)
+    → LastLevel levels a reached → Layers way u v start levels b → LastLevel levels b reached → a < b → ⊥
+none_after {b = b} {levels = levels} small r s layers t less =
+    let top = first_taken (levels b) small (t.some (omega arith)) in
+    let f = s.all_in _ (layer_reached layers r b _ (omega arith) top.there) in
+    layers.apart f.0 b _ (omega (arith, f.1, less)) (omega arith) f.2 top.there
+
+-- of the same levels and the same set there is one last level
+pub last_unique : {way : ℕ → ℕ → Bool} {u v start reached a b : ℕ} {levels : ℕ → ℕ} → ((i : ℕ) → levels i < 2 ^ 64)
+    → Reached way u v start (holds reached) → Layers way u v start levels a → LastLevel levels a reached
+    → Layers way u v start levels b → LastLevel levels b reached → a ≡ b
+last_unique {a = a} {b = b} small r l s k t = by_cases (dec_lt a b)
+    (λ less. absurd (none_after (small b) r s k t less))
+    (λ more. by_cases (dec_lt b a) (λ less. absurd (none_after (small a) r t l s less)) (λ no. omega arith))
+
 -- ---- where steps lead from one node
 
 -- what a word of the machine's holds is a node

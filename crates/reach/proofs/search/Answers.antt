@@ -13,7 +13,7 @@ use Rattle.reach.proofs.search.Goals.{Else-front-eq0}
 pub returns-clause-sought : goal.returns-clause-sought
 returns-clause-sought c = seek_met c.loop-met.invariant.0 c.both-met.result c.both-met.ensures c.if-met-gt0.true
 
--- of the level by its value, however it is written
+-- by the value of the level that is said, so that a wrong level alone is refused
 pub returns-then-front-eq0-clause-sought : goal.returns-then-front-eq0-clause-sought
 returns-then-front-eq0-clause-sought c = subst (λ d. Missed (leads c.args.ways.now c.args.back) c.args.u c.args.v c.args.start c.args.goal (at c.loop-met.levels) d c.loop-met.reached) (omega arith)
     (seek_end c.loop-met.invariant.0 c.both-met.result c.both-met.ensures c.if-met-gt0.false c.widen.ensures c.but-front.result c.but-front.ensures c.if-front-eq0.true)
